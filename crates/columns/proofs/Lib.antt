@@ -1,0 +1,4 @@
+-- The crate's laws that belong to no one function.
+pub mod Rows
+pub mod Spread
+pub mod Walk

@@ -1,0 +1,164 @@
+// The mount with its limits, segment length and keep-outs, and the motion check (document 01, "Motion check").
+use columns::Columns;
+use keep_out::KeepOuts;
+use state::Length;
+use state::Limits;
+use state::State;
+ghost use mathlib.Core.Bool.{true};
+ghost use mathlib.Core.Path.{_≡_};
+ghost use Prim.Native.Nat.{_≤_};
+ghost use lib.Ieee.{le};
+ghost use Rattle.keep_out.specs.Table.{keepOutsOf};
+ghost use Rattle.columns.specs.Columns.{columnsOf};
+ghost use Rattle.motion.specs.Valid.{goodMount, validOf};
+ghost use Rattle.motion.specs.Points.{mostPoints, Least, stepsOf, pointAt};
+ghost use Rattle.motion.specs.Accepts.{acceptsOf};
+
+pub struct Mount {
+    pub limits: Limits,
+    pub segment: Length,
+    pub table: KeepOuts,
+}
+
+// How many points a motion check tests.
+pub enum Steps {
+    Count(usize),
+    // More than 4,096: the motion is not accepted.
+    Many,
+}
+
+// The least whole number that is not below q.
+fn least(q: f64) -> usize
+    requires { ⌜ le q mostPoints ≡ true ⌝ }
+    ensures { λ r. ⌜ Least q r ⌝ }
+{
+    let mut n: usize = 0;
+    let found = 'numbers: loop {
+        if q <= n as f64 {
+            break 'numbers n;
+        }
+        n += 1;
+    };
+    found
+}
+
+// The n of the motion check.
+pub fn num_steps(segment: f64, from: State, to: State) -> Steps
+    ensures { λ r. ⌜ r ≡ stepsOf segment from to ⌝ }
+{
+    let q = from.distance(to) / (segment * Mount::PART);
+    if q <= Mount::MOST_POINTS {
+        return Steps::Count(least(q));
+    }
+    Steps::Many
+}
+
+// The i-th of the points that a motion of n steps tests.
+fn point(from: State, to: State, n: usize, i: usize) -> State
+    requires { ⌜ (i ≤ 4096) × (n ≤ 4096) ⌝ }
+    ensures { λ r. ⌜ r ≡ pointAt from to n i ⌝ }
+{
+    if n <= 1 {
+        to
+    } else {
+        from.interpolate(to, i as f64 / n as f64)
+    }
+}
+
+// Whether the motion from from to to is accepted, over keep-outs that are lent as columns. The walk is left at the first point that
+// is not valid.
+pub fn accepts<'a>(
+    limits: Limits,
+    segment: f64,
+    kinds: &'a [u8; 32],
+    numbers: &'a [f64; 192],
+    count: usize,
+    from: State,
+    to: State,
+) -> bool
+    ensures { λ r. ⌜ r ≡ acceptsOf limits segment (columnsOf (now (kinds .entry)) (now (numbers .entry)) count) from to ⌝ }
+{
+    let Steps::Count(n) = num_steps(segment, from, to) else {
+        return false;
+    };
+    let rows = if count < KeepOuts::MOST {
+        count
+    } else {
+        KeepOuts::MOST
+    };
+    let last = if n < 1 { 1 } else { n };
+    let mut i: usize = 1;
+    'points: while i <= last {
+        let s = point(from, to, n, i);
+        if s.within(limits.low, limits.high) {
+            let mut j: usize = 0;
+            'keep_outs: while j < rows {
+                let k = columns::keep_out_at(kinds, numbers, j);
+                if k.covers(s) {
+                    return false;
+                }
+                j += 1;
+            }
+        } else {
+            return false;
+        }
+        i += 1;
+    }
+    true
+}
+
+impl Mount {
+    // The part of a segment that one step takes.
+    pub const PART: f64 = 0.1;
+
+    // The most points of a motion that is looked at.
+    pub const MOST_POINTS: f64 = 4096.0;
+
+    pub fn is_good(self) -> bool
+        ensures { λ r. ⌜ r ≡ goodMount self ⌝ }
+    {
+        if self.limits.is_good() {
+            if self.segment.is_good() {
+                return self.table.is_good();
+            }
+        }
+        false
+    }
+
+    // Within the limits, and covered by no keep-out.
+    pub fn is_valid(self, s: State) -> bool
+        ensures { λ r. ⌜ r ≡ validOf (self .limits) (keepOutsOf (self .table)) s ⌝ }
+    {
+        let limits = self.limits;
+        if s.within(limits.low, limits.high) {
+            if self.table.covers(s) {
+                return false;
+            }
+            return true;
+        }
+        false
+    }
+
+    pub fn steps(self, from: State, to: State) -> Steps
+        ensures { λ r. ⌜ r ≡ stepsOf (self .segment .value) from to ⌝ }
+    {
+        num_steps(self.segment.value, from, to)
+    }
+
+    // Whether the motion from from to to is accepted.
+    pub fn check_motion(self, from: State, to: State) -> bool
+        ensures { λ r. ⌜ r ≡ acceptsOf (self .limits) (self .segment .value) (keepOutsOf (self .table)) from to ⌝ }
+    {
+        let columns = Columns::of(self.table);
+        let count = columns.count;
+        accepts(
+            self.limits,
+            self.segment.value,
+            &columns.kinds,
+            &columns.numbers,
+            count,
+            from,
+            to,
+        )
+    }
+}

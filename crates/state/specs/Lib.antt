@@ -1,0 +1,5 @@
+pub mod Ranges
+pub mod Made
+pub mod Distance
+pub mod Steering
+pub mod Satisfied
