@@ -1,0 +1,27 @@
+-- The route from the root to a node, over a tree's nodes (document 01, RRT: "the route from root to it is the answer").
+use Prim.Native.Nat.{ℕ, zero, suc, _-_, _≤_, _<_}
+use mathlib.Core.Bool.{cond}
+use mathlib.Core.List.{List, [], _∷_}
+use mathlib.Core.Path.{_≡_}
+use lib.Dec.{ltb}
+use lib.ListN.{length}
+use Rattle.state.specs.declared.State.{State}
+use Rattle.tree.specs.Table.{Nodes, stateAt, parentAt}
+
+-- the states from the root to the node k, before those of `after`; at most fuel steps up
+unfoldable pub climbOf : ℕ → Nodes → ℕ → List State → List State
+climbOf zero nodes k after = stateAt (nodes .states) k ∷ after
+climbOf (suc fuel) nodes k after =
+    let here = stateAt (nodes .states) k ∷ after in
+    let up = climbOf fuel nodes (parentAt nodes k) here in
+    cond (ltb (parentAt nodes k) (length (nodes .states))) up here
+
+-- as many states as there are nodes, at the most
+unfoldable pub pathOf : Nodes → ℕ → List State
+pathOf nodes k = climbOf (length (nodes .states) - 1) nodes k []
+
+-- n is the number of its states
+pub record Depth (nodes : Nodes) (k n : ℕ) : Type 0 where
+  pub is : n ≡ length (pathOf nodes k)
+  pub some : 0 < n
+  pub few : n ≤ length (nodes .states)
