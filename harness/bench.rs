@@ -1,0 +1,67 @@
+//! Times RRT's setup and solve in the original Rust and in the proved code: one run, the same inputs, thread time, the best of
+//! many rounds. Compiled without `--cfg proved` it times the Rust alone.
+
+#[path = "timing/original.rs"]
+mod original;
+#[cfg(proved)]
+#[path = "timing/proved.rs"]
+mod proved;
+#[path = "scenes/random.rs"]
+#[allow(dead_code)]
+mod random;
+#[path = "timing/thread_time.rs"]
+mod thread_time;
+#[path = "timing/workloads.rs"]
+mod workloads;
+
+use thread_time::timed;
+use workloads::Workload;
+
+const ROUNDS: usize = 300;
+
+fn main() {
+    for workload in workloads::all() {
+        describe(&workload);
+        let per_sample = |time: u64| time as f64 / workload.samples.len() as f64;
+        let (rust, proved) = best(&workload);
+        print!("   Rust {:.0} ns a sample", per_sample(rust));
+        match proved {
+            Some(time) => println!(", proved {:.0}, ratio {:.2}", per_sample(time), time as f64 / rust as f64),
+            None => println!("; the proved code is left out"),
+        }
+    }
+}
+
+fn describe(workload: &Workload) {
+    let samples = workload.samples.len();
+    let nodes = original::nodes(workload);
+    let points = original::points(workload) as f64 / samples as f64;
+    let refused = 100.0 * (samples - (nodes - 1)) as f64 / samples as f64;
+    let keep_outs = workload.mount.keep_outs.len();
+    println!("{}", workload.name);
+    println!(
+        "   {samples} samples, {nodes} nodes, {refused:.0}% refused, {points:.1} points a motion, {keep_outs} keep-outs"
+    );
+}
+
+/// The least time of the Rust and of the proved code, in turn, and that their answers agree.
+#[cfg(proved)]
+fn best(workload: &Workload) -> (u64, Option<u64>) {
+    original::prepare(workload);
+    let mut prepared = proved::prepare(workload);
+    let mut least = (u64::MAX, u64::MAX);
+    for _ in 0..ROUNDS {
+        let (rust, rust_time) = timed(|| original::run(workload));
+        let (proved, proved_time) = timed(|| proved::run(&mut prepared));
+        assert_eq!(rust, proved, "the Rust's outcome and the proved code's");
+        least = (least.0.min(rust_time), least.1.min(proved_time));
+    }
+    (least.0, Some(least.1))
+}
+
+#[cfg(not(proved))]
+fn best(workload: &Workload) -> (u64, Option<u64>) {
+    original::prepare(workload);
+    let least = (0..ROUNDS).map(|_| timed(|| original::run(workload)).1).min();
+    (least.expect("at least one round"), None)
+}

@@ -1,0 +1,121 @@
+//! The four workloads: scene and samples. In each the goal is out of reach, so that the whole list is worked through.
+
+use crate::original;
+use crate::random::Random;
+use oxmpl::mount::{GoalRegion, KeepOut, Mount, State};
+
+pub struct Workload {
+    pub name: &'static str,
+    pub mount: Mount,
+    pub segment: f64,
+    pub max_distance: f64,
+    pub start: State,
+    pub goal: GoalRegion,
+    pub samples: Vec<State>,
+}
+
+const FULL_TREE: usize = 512;
+
+pub fn all() -> Vec<Workload> {
+    vec![
+        filled(dish("a: 511 nodes, no keep-outs", 3.75, Vec::new())),
+        filled(dish("b: 511 nodes, 8 keep-outs", 3.75, eight())),
+        dish("c: 2,000 samples, most refused", 3.75, pocket()),
+        filled(wide("d: 40 points, 32 keep-outs", 39.5, thirty_two())),
+    ]
+}
+
+/// A dish's usual limits, and a segment length of 10, so that points lie at most 1 apart.
+fn dish(name: &'static str, max_distance: f64, keep_outs: Vec<KeepOut>) -> Workload {
+    let mount = Mount { low: State::new(&[-270.0, 0.0, -90.0]), high: State::new(&[270.0, 90.0, 90.0]), keep_outs };
+    workload(name, mount, max_distance, State::new(&[0.0, 45.0, 0.0]))
+}
+
+/// Limits so wide that a tree of long motions does not fill them.
+fn wide(name: &'static str, max_distance: f64, keep_outs: Vec<KeepOut>) -> Workload {
+    let mount = Mount { low: State::new(&[-1000.0; 3]), high: State::new(&[1000.0; 3]), keep_outs };
+    workload(name, mount, max_distance, State::new(&[0.0; 3]))
+}
+
+fn workload(name: &'static str, mount: Mount, max_distance: f64, start: State) -> Workload {
+    let goal = GoalRegion { centre: State::new(&[1024.0; 3]), radius: 0.0 };
+    let mut workload = Workload { name, mount, segment: 10.0, max_distance, start, goal, samples: Vec::new() };
+    workload.samples = uniform(&workload.mount, 2000);
+    workload
+}
+
+/// The shortest beginning of the list that fills the tree.
+fn filled(mut workload: Workload) -> Workload {
+    let all = workload.samples.clone();
+    let mut low = 0;
+    let mut high = all.len();
+    while low < high {
+        let middle = (low + high) / 2;
+        workload.samples = all[..middle].to_vec();
+        if original::nodes(&workload) < FULL_TREE {
+            low = middle + 1;
+        } else {
+            high = middle;
+        }
+    }
+    workload.samples = all[..low].to_vec();
+    workload
+}
+
+fn uniform(mount: &Mount, count: usize) -> Vec<State> {
+    let mut random = Random::new(1);
+    let (low, high) = (mount.low.axes(), mount.high.axes());
+    (0..count).map(|_| State::new(&[0, 1, 2].map(|axis| random.number(low[axis], high[axis])))).collect()
+}
+
+fn solid(low: [f64; 3], high: [f64; 3]) -> KeepOut {
+    KeepOut::Box { low: State::new(&low), high: State::new(&high) }
+}
+
+fn disc(azimuth: f64, elevation: f64, radius: f64) -> KeepOut {
+    KeepOut::Disc { azimuth, elevation, radius }
+}
+
+/// Eight of the three kinds, about the start, that stop some motions.
+fn eight() -> Vec<KeepOut> {
+    vec![
+        solid([20.0, 20.0, -20.0], [30.0, 40.0, 20.0]),
+        disc(-20.0, 60.0, 8.0),
+        KeepOut::Floor { elevation: 5.0 },
+        solid([-40.0, 30.0, 10.0], [-30.0, 50.0, 40.0]),
+        disc(10.0, 75.0, 6.0),
+        solid([-10.0, 10.0, -60.0], [10.0, 20.0, -30.0]),
+        disc(40.0, 60.0, 5.0),
+        KeepOut::Floor { elevation: 2.0 },
+    ]
+}
+
+/// Walls about the start, thicker than a motion is long: the tree fills the pocket, and most samples lie outside.
+fn pocket() -> Vec<KeepOut> {
+    vec![
+        solid([-36.0, 0.0, -90.0], [-32.0, 90.0, 90.0]),
+        solid([32.0, 0.0, -90.0], [36.0, 90.0, 90.0]),
+        solid([-36.0, 0.0, -36.0], [36.0, 90.0, -32.0]),
+        solid([-36.0, 0.0, 32.0], [36.0, 90.0, 36.0]),
+        solid([-36.0, 70.0, -36.0], [36.0, 74.0, 36.0]),
+        KeepOut::Floor { elevation: 20.0 },
+        disc(20.0, 60.0, 6.0),
+        disc(-20.0, 30.0, 6.0),
+    ]
+}
+
+/// Small ones, strewn about the start.
+fn thirty_two() -> Vec<KeepOut> {
+    let mut random = Random::new(2);
+    let mut place = || random.number(-300.0, 300.0);
+    (0..32)
+        .map(|turn| match turn % 4 {
+            0 | 2 => {
+                let corner = [place(), place(), place()];
+                solid(corner, corner.map(|number| number + 20.0))
+            }
+            1 => disc(place() + 310.0, place(), 8.0),
+            _ => KeepOut::Floor { elevation: -980.0 - turn as f64 / 2.0 },
+        })
+        .collect()
+}
