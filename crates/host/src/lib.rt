@@ -22,7 +22,11 @@ pub struct Report {
 fn table_of<'a>(kinds: &'a [u8; 32], numbers: &'a [f64; 192], count: usize) -> KeepOuts
     ensures { λ r. ⌜ Listed (now (kinds .entry)) (now (numbers .entry)) count r ⌝ }
 {
-    let rows = if count < KeepOuts::MOST { count } else { KeepOuts::MOST };
+    let rows = if count < KeepOuts::MOST {
+        count
+    } else {
+        KeepOuts::MOST
+    };
     let mut table = KeepOuts::new();
     let mut j: usize = 0;
     'rows: while j < rows {

@@ -102,7 +102,7 @@ same-length c = search needs
 -- src/lib.rt:83:9
 returns : tie.Need-returns
 unfolding limitsIn startIn goalIn
-returns c = 
+returns c =
     let solve = c .before .before .before in
     let number = solve .before .before .before in
     let made = number .before in
@@ -112,7 +112,7 @@ returns c =
 -- src/lib.rt:38:1
 returns-2 : tie.Need-returns-2
 unfolding limitsIn startIn goalIn
-returns-2 c = 
+returns-2 c =
     let number = c .before in
     let made = number .before in
     call-refused _ _ _ _ _ _ _ (made .before .before .before .before .table-of .ensures) _ (made .before .new .ensures) (made .setup .result) (made .setup .ensures) _ (number .number .ensures) (c .if1 .left)

@@ -34,7 +34,7 @@ new-requires c κs = search needs
 
 -- src/lib.rt:28:5
 rows-holds : tie.Need-rows-holds Inv-rows μ-rows
-rows-holds c = 
+rows-holds c =
     let e : c .before .if1 .rows ≡ min (c .before .before .args .count) 32 = ⊎-elim (λ w. omega arith) (λ w. omega arith) (c .before .if1 .came) in
     (omega arith, e, ap (λ (t : KeepOuts). length (t .slots)) (c .new .ensures) ∙ empty-size, λ i h. absurd (nothing i h))
   where
@@ -63,7 +63,7 @@ rows-less c = omega arith
 
 -- src/lib.rt:28:5
 rows-again : tie.Need-rows-again Inv-rows μ-rows
-rows-again c = 
+rows-again c =
     let turn = c .before in
     let h = turn .before .rows .inv in
     let room : turn .before .rows .j < length (turn .before .rows .table .slots) = omega arith in
@@ -71,7 +71,7 @@ rows-again c =
 
 -- src/lib.rt:22:1
 returns : tie.Need-returns Inv-rows μ-rows
-returns c = 
+returns c =
     let h = c .before .rows .inv in
     record { is = listed-is _ _ _ none _ _ _ (h .2) (h .1) (c .rows-test .left) (h .3); many = refl }
 

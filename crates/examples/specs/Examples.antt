@@ -1,0 +1,113 @@
+-- Document 01, "Examples on both sides": one table, and one statement that every row of it holds, by computation.
+-- A new kind of example is a constructor of `Case` and a line of `holds`; a new example is a row.
+use Prim.Native.Nat.{ℕ, _^_, _*_, _-_}
+use mathlib.Core.Bool.{Bool, true, false, _&&_, Bool·beq}
+use mathlib.Core.List.{List, [], _∷_, _++_}
+use lib.Dec.{T, eqb}
+use lib.ListN.{length, replicate}
+use lib.Ieee.{Float, add, sub, mul, div, lt, le, ofInt, ofBits, toBits}
+use Rattle.answer.specs.Number.{numberOf}
+use Rattle.state.specs.Ranges.{insideOf, withinOf, coordinateOf, goodState, atMostOf, goodSpan, goodLimits, goodLength, goodGoal}
+use Rattle.state.specs.Distance.{apartOf, widerOf, distanceOf}
+use Rattle.state.specs.Steering.{interpolateOf, steerBy, steerOf}
+use Rattle.state.specs.Satisfied.{satisfiedOf}
+use Rattle.state.specs.declared.State.{State}
+use Rattle.state.specs.declared.Goal.{Goal}
+use Rattle.keep_out.specs.Covers.{coversOf, coveredOf}
+use Rattle.keep_out.specs.Good.{allGood, goodTable}
+use Rattle.keep_out.specs.Table.{keepOutsOf, emptyTable}
+use Rattle.keep_out.specs.declared.KeepOut.{KeepOut}
+use Rattle.keep_out.specs.declared.KeepOut.the-variants.{Disc}
+use Rattle.motion.specs.Valid.{validOf, goodMount}
+use Rattle.motion.specs.Points.{quotientOf, searchOf, leastOf, stepsOf, partWay, partWays, testedOf, Checked, tooMany, points, checkedAt, checkedOf}
+use Rattle.motion.specs.Accepts.{allValid, acceptedOf, acceptsOf}
+use Rattle.motion.specs.declared.Steps.{Steps}
+use Rattle.motion.specs.declared.Steps.the-variants.{Count, Many}
+use Rattle.samples.specs.Samples.{allCoordinates, goodSamples, samplesOf}
+use Rattle.tree.specs.Table.{grownOf, rootOf}
+use Rattle.tree.specs.Nearest.{nearestFrom, nearestOf}
+use Rattle.tree.specs.Step.{stepFrom, stepOf}
+use Rattle.route.specs.Path.{climbOf, pathOf}
+use Rattle.route.specs.Written.{flatOf, writtenOf}
+use Rattle.rrt.specs.Planner.{newOf, goodSetup, setupOf}
+use Rattle.rrt.specs.Run.{afterOf, runOf}
+use Rattle.rrt.specs.Solve.{Outcome, endedOf, solveOf}
+use Rattle.examples.specs.Words.{ratio, whole, at, on, origin, limits, segment, box, unused, same, sameState, sameStates, sameNumbers}
+
+-- what an example says
+pub data Case : Type 0 where
+  -- the distance of two states
+  distance : State → State → Float → Case
+  -- with this segment length, the n of a motion and the states that are tested, in order
+  tested : Float → State → State → ℕ → List State → Case
+  -- whether a motion is accepted among these keep-outs
+  accepted : List KeepOut → State → State → Bool → Case
+  -- whether a keep-out covers a state
+  covered : KeepOut → State → Bool → Case
+  -- with this max_distance, the new state from a node toward a sample
+  steered : Float → State → State → State → Case
+  -- RRT with this max_distance from a start to a goal over a list of samples: the route's numbers, and the samples taken
+  planned : Float → State → Goal → List Float → List Float → ℕ → Case
+
+unfoldable pub counts : Steps → ℕ → Bool
+counts (Count n) m = eqb n m
+counts Many m = false
+
+unfoldable pub pointsAre : Checked → List State → Bool
+pointsAre tooMany ss = false
+pointsAre (points ts) ss = sameStates ts ss
+
+-- done: the route's numbers stand at the front of the buffer, and every number behind them is kept
+unfoldable pub gives : Outcome → List Float → ℕ → Bool
+gives o numbers taken =
+    eqb (numberOf (o .answer)) 0 && eqb (3 * o .count) (length numbers) && eqb (o .taken) taken
+    && sameNumbers (o .route) (numbers ++ replicate (1536 - length numbers) unused)
+
+unfoldable pub plannedBy : Float → State → Goal → List Float → Outcome
+plannedBy max start goal samples =
+    let told = setupOf newOf limits (record { value = segment }) (record { value = max }) start goal emptyTable in
+    solveOf (told .planner) samples (replicate 1536 unused)
+
+unfoldable pub holds : Case → Bool
+holds (distance a b d) = same (distanceOf a b) d
+holds (tested length from to n ss) = counts (stepsOf length from to) n && pointsAre (checkedOf length from to) ss
+holds (accepted ks from to r) = Bool·beq (acceptsOf limits segment ks from to) r
+holds (covered k s r) = Bool·beq (coversOf k s) r
+holds (steered max near sample new) = sameState (steerOf max near sample) new
+holds (planned max start goal samples numbers taken) = gives (plannedBy max start goal samples) numbers taken
+
+unfoldable pub allHold : List Case → Bool
+allHold [] = true
+allHold (c ∷ cs) = holds c && allHold cs
+
+unfoldable pub examples : List Case
+examples =
+    -- E1 distance (0,0,0),(3,4,0) is 4
+    distance origin (at (whole 3) (whole 4) (whole 0)) (whole 4)
+    -- E2 (0,0,0) to (1,0,0): n = 1, only the end tested
+    ∷ tested segment origin (on (whole 1)) 1 (on (whole 1) ∷ [])
+    -- E2 to (1.5,0,0): n = 2, points 0.75 and 1.5
+    ∷ tested segment origin (on (ratio 15 10)) 2 (on (ratio 75 100) ∷ on (ratio 15 10) ∷ [])
+    -- E3 box (0,0,0)-(0.5,1,1): the motion to (1.5,0,0) is accepted
+    ∷ accepted (box (whole 0) (ratio 5 10) ∷ []) origin (on (ratio 15 10)) true
+    -- E4 box (1.5,0,0)-(2,1,1): it is not
+    ∷ accepted (box (ratio 15 10) (whole 2) ∷ []) origin (on (ratio 15 10)) false
+    -- E4 box (0.76,0,0)-(1.4,1,1): accepted
+    ∷ accepted (box (ratio 76 100) (ratio 14 10) ∷ []) origin (on (ratio 15 10)) true
+    -- E5 disc (10,10) radius 5 covers (13,14,0)
+    ∷ covered (Disc (whole 10) (whole 10) (whole 5)) (at (whole 13) (whole 14) (whole 0)) true
+    -- E6 segment 5, from (1,0,0) to (2^-60,0,0): n = 2, the last tested azimuth is 0
+    ∷ tested (whole 5) (on (whole 1)) (on (ratio 1 (2 ^ 60))) 2 (on (ratio 5 10) ∷ on (whole 0) ∷ [])
+    -- E7 max_distance 4, from (0,0,0): sample (8,4,0) gives (4,2,0)
+    ∷ steered (whole 4) origin (at (whole 8) (whole 4) (whole 0)) (at (whole 4) (whole 2) (whole 0))
+    -- E7 sample (4,2,0) gives itself
+    ∷ steered (whole 4) origin (at (whole 4) (whole 2) (whole 0)) (at (whole 4) (whole 2) (whole 0))
+    -- E8 RRT, start (0,0,0), max 4, goal (6,0,0) radius 0.5, samples (8,0,0),(6,0,0): route numbers 0,0,0,4,0,0,6,0,0; 2 taken
+    ∷ planned (whole 4) origin (record { centre = on (whole 6); radius = ratio 5 10 })
+    (whole 8 ∷ whole 0 ∷ whole 0 ∷ whole 6 ∷ whole 0 ∷ whole 0 ∷ [])
+    (whole 0 ∷ whole 0 ∷ whole 0 ∷ whole 4 ∷ whole 0 ∷ whole 0 ∷ whole 6 ∷ whole 0 ∷ whole 0 ∷ []) 2
+    ∷ []
+
+pub examples-hold : T (allHold examples)
+unfolding examples allHold holds counts pointsAre gives plannedBy same sameState sameStates sameNumbers distanceOf widerOf apartOf interpolateOf steerBy steerOf satisfiedOf insideOf withinOf coordinateOf goodState atMostOf goodSpan goodLimits goodLength goodGoal coversOf coveredOf allGood goodTable keepOutsOf emptyTable validOf goodMount quotientOf searchOf leastOf stepsOf partWay partWays testedOf checkedAt checkedOf allValid acceptedOf acceptsOf allCoordinates goodSamples samplesOf grownOf rootOf nearestFrom nearestOf stepFrom stepOf climbOf pathOf flatOf writtenOf goodSetup setupOf afterOf runOf endedOf solveOf add sub mul div lt le ofInt ofBits toBits
+examples-hold = tt
