@@ -15,7 +15,7 @@ BEGIN {
     printf "  %s\n", shown
     if (!ahead) { print "      -> (nothing was answered)"; next }
     printf "      -> %s\n", plain(pending)
-    while ((ahead = (getline pending < answers) > 0) && pending ~ /^(  |!)/)
+    while ((ahead = (getline pending < answers) > 0) && (pending ~ /^(  |!)/ || ($2 == "tables" && pending ~ /^goal /)))
         printf "         %s\n", plain(pending)
 }
 

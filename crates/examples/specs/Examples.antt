@@ -7,6 +7,7 @@ use lib.Dec.{T, eqb}
 use lib.ListN.{length, replicate}
 use lib.Ieee.{Float, add, sub, mul, div, lt, le, ofInt, ofBits, toBits}
 use Rattle.answer.specs.Number.{numberOf}
+use Rattle.answer.specs.declared.Answer.{Answer}
 use Rattle.state.specs.Ranges.{insideOf, withinOf, coordinateOf, goodState, atMostOf, goodSpan, goodLimits, goodLength, goodGoal}
 use Rattle.state.specs.Distance.{apartOf, widerOf, distanceOf}
 use Rattle.state.specs.Steering.{interpolateOf, steerBy, steerOf}
@@ -27,11 +28,18 @@ use Rattle.samples.specs.Samples.{allCoordinates, goodSamples, samplesOf}
 use Rattle.tree.specs.Table.{grownOf, rootOf}
 use Rattle.tree.specs.Nearest.{nearestFrom, nearestOf}
 use Rattle.tree.specs.Step.{stepFrom, stepOf}
-use Rattle.route.specs.Path.{climbOf, pathOf}
+use Rattle.route.specs.Path.{climbOf, pathOf, ancestorsOf, upwardsOf}
 use Rattle.route.specs.Written.{flatOf, writtenOf}
 use Rattle.rrt.specs.Planner.{newOf, goodSetup, setupOf}
 use Rattle.rrt.specs.Run.{afterOf, runOf}
 use Rattle.rrt.specs.Solve.{Outcome, endedOf, solveOf}
+use Rattle.extend.specs.Extend.{afterStep, extendOf}
+use Rattle.rrt_connect.specs.Turn.{connectEnds, byVerdict, turnOf}
+use Rattle.rrt_connect.specs.Round.{roundOf}
+use Rattle.rrt_connect.specs.Ending.{endPath}
+use Rattle.rrt_connect.specs.Planner as planner
+use Rattle.rrt_connect.specs.Run as run
+use Rattle.rrt_connect.specs.Solve as connect
 use Rattle.examples.specs.Words.{ratio, whole, at, on, origin, limits, segment, box, unused, same, sameState, sameStates, sameNumbers}
 
 -- what an example says
@@ -48,6 +56,8 @@ pub data Case : Type 0 where
   steered : Float → State → State → State → Case
   -- RRT with this max_distance from a start to a goal over a list of samples: the route's numbers, and the samples taken
   planned : Float → State → Goal → List Float → List Float → ℕ → Case
+  -- RRT-Connect, the same
+  connected : Float → State → Goal → List Float → List Float → ℕ → Case
 
 unfoldable pub counts : Steps → ℕ → Bool
 counts (Count n) m = eqb n m
@@ -57,16 +67,21 @@ unfoldable pub pointsAre : Checked → List State → Bool
 pointsAre tooMany ss = false
 pointsAre (points ts) ss = sameStates ts ss
 
--- done: the route's numbers stand at the front of the buffer, and every number behind them is kept
-unfoldable pub gives : Outcome → List Float → ℕ → Bool
-gives o numbers taken =
-    eqb (numberOf (o .answer)) 0 && eqb (3 * o .count) (length numbers) && eqb (o .taken) taken
-    && sameNumbers (o .route) (numbers ++ replicate (1536 - length numbers) unused)
+-- done: the route's numbers stand at the front of a buffer of that length, and every number behind them is kept
+unfoldable pub gives : ℕ → Answer → ℕ → ℕ → List Float → List Float → ℕ → Bool
+gives size answer count taken route numbers samples =
+    eqb (numberOf answer) 0 && eqb (3 * count) (length numbers) && eqb taken samples
+    && sameNumbers route (numbers ++ replicate (size - length numbers) unused)
 
 unfoldable pub plannedBy : Float → State → Goal → List Float → Outcome
 plannedBy max start goal samples =
     let told = setupOf newOf limits (record { value = segment }) (record { value = max }) start goal emptyTable in
     solveOf (told .planner) samples (replicate 1536 unused)
+
+unfoldable pub connectedBy : Float → State → Goal → List Float → connect.Outcome
+connectedBy max start goal samples =
+    let told = planner.setupOf planner.newOf limits (record { value = segment }) (record { value = max }) start goal emptyTable in
+    connect.solveOf (told .planner) samples (replicate 3069 unused)
 
 unfoldable pub holds : Case → Bool
 holds (distance a b d) = same (distanceOf a b) d
@@ -74,7 +89,12 @@ holds (tested length from to n ss) = counts (stepsOf length from to) n && points
 holds (accepted ks from to r) = Bool·beq (acceptsOf limits segment ks from to) r
 holds (covered k s r) = Bool·beq (coversOf k s) r
 holds (steered max near sample new) = sameState (steerOf max near sample) new
-holds (planned max start goal samples numbers taken) = gives (plannedBy max start goal samples) numbers taken
+holds (planned max start goal samples numbers taken) =
+    let o = plannedBy max start goal samples in
+    gives 1536 (o .answer) (o .count) (o .taken) (o .route) numbers taken
+holds (connected max start goal samples numbers taken) =
+    let o = connectedBy max start goal samples in
+    gives 3069 (o .answer) (o .count) (o .taken) (o .route) numbers taken
 
 unfoldable pub allHold : List Case → Bool
 allHold [] = true
@@ -106,8 +126,12 @@ examples =
     ∷ planned (whole 4) origin (record { centre = on (whole 6); radius = ratio 5 10 })
     (whole 8 ∷ whole 0 ∷ whole 0 ∷ whole 6 ∷ whole 0 ∷ whole 0 ∷ [])
     (whole 0 ∷ whole 0 ∷ whole 0 ∷ whole 4 ∷ whole 0 ∷ whole 0 ∷ whole 6 ∷ whole 0 ∷ whole 0 ∷ []) 2
+    -- E9 RRT-Connect, start (0,0,0), max 4, goal (8,0,0) radius 0.5, samples (8,0,0),(4,0,0): 0,0,0,4,0,0,8,0,0; 2 taken
+    ∷ connected (whole 4) origin (record { centre = on (whole 8); radius = ratio 5 10 })
+    (whole 8 ∷ whole 0 ∷ whole 0 ∷ whole 4 ∷ whole 0 ∷ whole 0 ∷ [])
+    (whole 0 ∷ whole 0 ∷ whole 0 ∷ whole 4 ∷ whole 0 ∷ whole 0 ∷ whole 8 ∷ whole 0 ∷ whole 0 ∷ []) 2
     ∷ []
 
 pub examples-hold : T (allHold examples)
-unfolding examples allHold holds counts pointsAre gives plannedBy same sameState sameStates sameNumbers distanceOf widerOf apartOf interpolateOf steerBy steerOf satisfiedOf insideOf withinOf coordinateOf goodState atMostOf goodSpan goodLimits goodLength goodGoal coversOf coveredOf allGood goodTable keepOutsOf emptyTable validOf goodMount quotientOf searchOf leastOf stepsOf partWay partWays testedOf checkedAt checkedOf allValid acceptedOf acceptsOf allCoordinates goodSamples samplesOf grownOf rootOf nearestFrom nearestOf stepFrom stepOf climbOf pathOf flatOf writtenOf goodSetup setupOf afterOf runOf endedOf solveOf add sub mul div lt le ofInt ofBits toBits
+unfolding examples allHold holds counts pointsAre gives plannedBy same sameState sameStates sameNumbers distanceOf widerOf apartOf interpolateOf steerBy steerOf satisfiedOf insideOf withinOf coordinateOf goodState atMostOf goodSpan goodLimits goodLength goodGoal coversOf coveredOf allGood goodTable keepOutsOf emptyTable validOf goodMount quotientOf searchOf leastOf stepsOf partWay partWays testedOf checkedAt checkedOf allValid acceptedOf acceptsOf allCoordinates goodSamples samplesOf grownOf rootOf nearestFrom nearestOf stepFrom stepOf climbOf pathOf flatOf writtenOf goodSetup setupOf afterOf runOf endedOf solveOf connectedBy ancestorsOf upwardsOf afterStep extendOf connectEnds byVerdict turnOf roundOf endPath planner.setupOf run.afterOf run.runOf connect.endedOf connect.solveOf add sub mul div lt le ofInt ofBits toBits
 examples-hold = tt

@@ -1,17 +1,26 @@
 // The script, line after line: each call is made and answered, up to the input's end or the first line that is no call.
-use crate::grammar::Planner;
-use crate::input;
-use crate::input::Input;
-use crate::line;
-use crate::line::Kind;
-use crate::line::Line;
-use crate::mount;
-use crate::mount::Kept;
-use crate::output;
+use grammar::Planner;
+use mount_calls::Kept;
+use planner_calls::connect_calls;
+use planner_calls::rrt_calls;
+use rrt::Rrt;
+use rrt_connect::RrtConnect;
+use script::Kind;
+use script::Line;
+use words::input;
+use words::input::Input;
 
 // What the calls work on: one planner of each kind, and the mount.
 struct Planners {
     mount: Kept,
+    rrt: Rrt,
+    connect: RrtConnect,
+}
+
+// What came of a line: whether it is a call that was made, and the planners after it.
+struct Made {
+    is_call: bool,
+    planners: Planners,
 }
 
 // Where the script stands: the planners, what is left of the input, and whether there is a line to read.
@@ -28,31 +37,52 @@ fn write_no_call(out: &mut [u8], line: u64) {
     output::flush(out, used);
 }
 
-// Makes a call, writes what it answered, and says whether it is one of a planner that is here.
-fn make(out: &mut [u8], numbers: &[f64], planners: Planners, line: Line) -> Script {
-    let input = line.input;
+// The numbers of a line, out of the memory that they were read into.
+fn of_line(numbers: &[f64], count: usize) -> &[f64] {
+    if count <= numbers.len() {
+        return &numbers[..count];
+    }
+    numbers
+}
+
+// Makes a call and writes what it answered, if it is one of a planner that is here.
+fn make(out: &mut [u8], space: &[f64], planners: Planners, line: Line) -> Made {
+    let numbers = of_line(space, line.count);
     let planner = line.planner;
     match planner {
         Planner::Mount => {
-            let kept = planners.mount;
             let verb = line.verb;
             let table = line.table;
-            let done = mount::call(kept, verb, numbers, table);
-            let reply = done.reply;
-            let used = mount::write(out, 0, reply);
-            output::flush(out, used);
-            let mount = done.kept;
-            let planners = Planners { mount };
-            Script {
-                goes_on: true,
-                planners,
-                input,
+            let mut after = planners;
+            after.mount = mount_calls::call(out, planners.mount, verb, numbers, table);
+            Made {
+                is_call: true,
+                planners: after,
             }
         }
-        _ => Script {
-            goes_on: false,
+        Planner::Rrt => {
+            let called = rrt_calls::call(out, planners.rrt, line, numbers);
+            let rrt = called.planner;
+            let mut after = planners;
+            after.rrt = rrt;
+            Made {
+                is_call: called.is_made,
+                planners: after,
+            }
+        }
+        Planner::Connect => {
+            let called = connect_calls::call(out, planners.connect, line, numbers);
+            let connect = called.planner;
+            let mut after = planners;
+            after.connect = connect;
+            Made {
+                is_call: called.is_made,
+                planners: after,
+            }
+        }
+        _ => Made {
+            is_call: false,
             planners,
-            input,
         },
     }
 }
@@ -61,11 +91,11 @@ fn make(out: &mut [u8], numbers: &[f64], planners: Planners, line: Line) -> Scri
 fn step(
     bytes: &mut [u8],
     out: &mut [u8],
-    numbers: &mut [f64],
+    space: &mut [f64],
     script: Script,
     number: u64,
 ) -> Script {
-    let line = line::read(bytes, numbers, script.input);
+    let line = script::read(bytes, space, script.input);
     let input = line.input;
     let planners = script.planners;
     let kind = line.kind;
@@ -76,11 +106,21 @@ fn step(
             input,
         },
         Kind::Call => {
-            let after = make(out, numbers, planners, line);
-            if !after.goes_on {
-                write_no_call(out, number);
+            let made = make(out, space, planners, line);
+            let after = made.planners;
+            if made.is_call {
+                return Script {
+                    goes_on: true,
+                    planners: after,
+                    input,
+                };
             }
-            after
+            write_no_call(out, number);
+            Script {
+                goes_on: false,
+                planners: after,
+                input,
+            }
         }
         Kind::Other => {
             write_no_call(out, number);
@@ -93,10 +133,20 @@ fn step(
     }
 }
 
+fn uninitialised() -> Planners {
+    let mount = mount_calls::none();
+    let rrt = Rrt::new();
+    let connect = RrtConnect::new();
+    Planners {
+        mount,
+        rrt,
+        connect,
+    }
+}
+
 // Lines are counted from 1.
-pub fn run(bytes: &mut [u8], out: &mut [u8], numbers: &mut [f64]) {
-    let mount = mount::none();
-    let planners = Planners { mount };
+pub fn run(bytes: &mut [u8], out: &mut [u8], space: &mut [f64]) {
+    let planners = uninitialised();
     let mut script = Script {
         goes_on: true,
         planners,
@@ -104,7 +154,7 @@ pub fn run(bytes: &mut [u8], out: &mut [u8], numbers: &mut [f64]) {
     };
     let mut number: u64 = 1;
     while number < input::MOST {
-        script = step(bytes, out, numbers, script, number);
+        script = step(bytes, out, space, script, number);
         if !script.goes_on {
             return;
         }

@@ -3,3 +3,4 @@ pub mod Climb
 pub mod Stores
 pub mod View
 pub mod Back
+pub mod Upwards

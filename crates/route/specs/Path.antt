@@ -25,3 +25,15 @@ pub record Depth (nodes : Nodes) (k n : ℕ) : Type 0 where
   pub is : n ≡ length (pathOf nodes k)
   pub some : 0 < n
   pub few : n ≤ length (nodes .states)
+
+-- the states from a node's parent up to the root, at most fuel of them
+unfoldable pub ancestorsOf : ℕ → Nodes → ℕ → List State
+ancestorsOf zero nodes k = []
+ancestorsOf (suc fuel) nodes k =
+    let p = parentAt nodes k in
+    let up = stateAt (nodes .states) p ∷ ancestorsOf fuel nodes p in
+    cond (ltb p (length (nodes .states))) up []
+
+-- as many as there are other nodes, at the most
+unfoldable pub upwardsOf : Nodes → ℕ → List State
+upwardsOf nodes k = ancestorsOf (length (nodes .states) - 1) nodes k

@@ -5,7 +5,7 @@ ghost use Prim.Native.Nat.{_≤_, _<_, _*_, _+_};
 ghost use lib.ListN.{length};
 ghost use Rattle.tree.specs.Table.{nodesIn};
 ghost use Rattle.route.specs.Path.{Depth};
-ghost use Rattle.route.specs.Written.{putOf, Wrote};
+ghost use Rattle.route.specs.Written.{putOf, Wrote, Appended};
 
 // How many states the route to a node has. A parent that is no node ends it, and so does the count, should parents run in a circle.
 fn depth<'a>(
@@ -77,4 +77,39 @@ pub fn reconstruct_path<'a>(
     };
     put(route, 0, root);
     n
+}
+
+// Writes the states of a node's ancestors, its parent first and the root last, from the place of state number from on, and returns
+// how many there are: the way on where a route comes in at a node of a tree that is rooted at its end.
+pub fn append_ancestors<'a>(
+    az: &'a [f64; 512],
+    el: &'a [f64; 512],
+    feed: &'a [f64; 512],
+    parent: &'a [usize; 512],
+    count: usize,
+    node: usize,
+    route: &mut [f64],
+    from: usize,
+) -> usize
+    requires { ⌜ (node < count) × (count ≤ 512) × (3 * (from + count) ≤ length (now route) + 3) ⌝ }
+    ensures { λ r. ⌜ Appended (nodesIn count (now (az .entry)) (now (el .entry)) (now (feed .entry)) (now (parent .entry))) node from (now (route .entry)) r (now (route .exit)) ⌝ }
+{
+    let mut at = node;
+    let mut k: usize = 0;
+    'up: while k + 1 < count {
+        let p = parent[at];
+        if p < count {
+            let s = State {
+                az: az[p],
+                el: el[p],
+                feed: feed[p],
+            };
+            put(route, 3 * (from + k), s);
+            at = p;
+            k += 1;
+        } else {
+            return k;
+        }
+    }
+    k
 }

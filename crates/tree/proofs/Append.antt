@@ -12,7 +12,7 @@ use Rattle.state.specs.declared.State.{State}
 use Rattle.state.specs.Distance.{distanceOf}
 use Rattle.tree.specs.declared.Near.{Near}
 use Rattle.tree.specs.declared.Tree.{Tree}
-use Rattle.tree.specs.Table.{rowAt, rowsOf, statesOf, stateAt, nodesIn, nodesOf, grownOf, rootOf, rootedOf}
+use Rattle.tree.specs.Table.{rowAt, rowsOf, statesOf, stateAt, nodesIn, nodesOf, grownOf, rootOf, rootedOf, noNodes, noneOf}
 use Rattle.tree.specs.Nearest.{betterOf, nearestFrom, nearestOf}
 
 module _ (az el feed : List Float) where
@@ -137,3 +137,8 @@ nodes-length t h = states-length (t .az) (t .el) (t .feed) (t .count) h
 pub rooted-is : (s : State) → nodesOf (rootedOf s) ≡ rootOf s
 unfolding nodesIn nodesOf rootedOf rootOf statesOf rowsOf
 rooted-is s = refl
+
+-- no node at all
+pub none-is : nodesOf noneOf ≡ noNodes
+unfolding nodesIn nodesOf noneOf statesOf rowsOf
+none-is = refl

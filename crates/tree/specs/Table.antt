@@ -4,7 +4,7 @@ use mathlib.Core.List.{List, [], _∷_, _++_}
 use mathlib.Core.Bool.{cond}
 use lib.Dec.{ltb}
 use lib.ListN.{length, getD, take, replicate}
-use lib.Ieee.{Float, nan}
+use lib.Ieee.{Float, nan, binary64, ofBits}
 use Rattle.state.specs.declared.State.{State}
 use Rattle.tree.specs.declared.Tree.{Tree}
 use Rattle.tree.specs.declared.NodeAt.{NodeAt}
@@ -61,3 +61,12 @@ rootOf s = record { states = s ∷ []; parents = 512 ∷ [] }
 unfoldable pub rootedOf : State → Tree
 rootedOf s =
     record { az = replicate 512 (s .az); el = replicate 512 (s .el); feed = replicate 512 (s .feed); parent = replicate 512 512; count = 1 }
+
+-- no node at all, and the table that holds none
+abbrev pub noNodes : Nodes
+noNodes = record { states = []; parents = [] }
+
+unfoldable pub noneOf : Tree
+noneOf =
+    let zero = ofBits binary64 0 in
+    record { az = replicate 512 zero; el = replicate 512 zero; feed = replicate 512 zero; parent = replicate 512 512; count = 0 }

@@ -5,7 +5,7 @@ use state::State;
 ghost use mathlib.Core.Path.{_≡_};
 ghost use Prim.Native.Nat.{_≤_, _<_, _+_};
 ghost use Rattle.columns.specs.Columns.{columnsOf};
-ghost use Rattle.tree.specs.Table.{statesOf, nodesIn, nodeAtOf, rootedOf};
+ghost use Rattle.tree.specs.Table.{statesOf, nodesIn, nodeAtOf, rootedOf, noneOf};
 ghost use Rattle.tree.specs.Nearest.{nearestOf, lessOf, farOf, Lowest};
 ghost use Rattle.tree.specs.Step.{stepOf};
 
@@ -56,6 +56,19 @@ impl Tree {
             feed: [s.feed; 512],
             parent: [Tree::NO_PARENT; 512],
             count: 1,
+        }
+    }
+
+    // A tree without a root.
+    pub fn none() -> Tree
+        ensures { λ r. ⌜ r ≡ noneOf ⌝ }
+    {
+        Tree {
+            az: [0.0; 512],
+            el: [0.0; 512],
+            feed: [0.0; 512],
+            parent: [Tree::NO_PARENT; 512],
+            count: 0,
         }
     }
 }

@@ -154,7 +154,7 @@ returns c =
     let h = left .before .back .inv in
     let is-s = sym (state-in _ _ _ (now (start .args .parent)) _ (start .pre .1) _ (h .0)) in
     let one : left .before .back .left ≡ 1 = omega arith in
-    record { count = h .4 .0; memory = back-ends (nodes start) _ _ (h .4 .0) _ (h .4 .1) _ _ _ (h .4 .2) _ is-s _ one (put .put2 .ensures) }
+    record { count = h .4 .0; memory = back-ends (nodes start) _ _ (h .4 .0) _ (h .4 .1) _ _ _ (h .4 .2) _ is-s _ one (put .put2 .ensures); few = left .before .before .depth .ensures .few }
 
 pub reconstruct-path-spec : {M : Type 1} → statement M
 reconstruct-path-spec =

@@ -1,19 +1,30 @@
 -- `replay::calls::run` is safe and ends: the lines that are left fall.
 use lib.ListN.{length}
 use Prim.Native.Nat.{_≤_, _-_}
-use mathlib.Core.Path.{_≡_}
+use denote.Ref.{now}
+use native.Mathlib.Omega.{arith}
+use mathlib.Core.Path.{_≡_, _∙_}
 use borrow.Author.Needs.{needs}
 use Rattle.replay.proofs.calls.run.Statement.{statement}
 use Rattle.replay.proofs.calls.run.Tie as tie
 
 abbrev Inv-loop : tie.InvT-loop
-Inv-loop bytes₀ out₀ numbers₀ script₀ number₀ bytes out numbers script number = (length bytes ≡ length bytes₀) × (length out ≡ length out₀) × (length numbers ≡ length numbers₀) × (number ≤ 4611686018427387904)
+Inv-loop bytes₀ out₀ space₀ script₀ number₀ bytes out space script number = (length bytes ≡ length bytes₀) × (length out ≡ length out₀) × (length space ≡ length space₀) × (number ≤ 4611686018427387904)
 
 abbrev μ-loop : tie.MeasureT-loop
-μ-loop bytes₀ out₀ numbers₀ script₀ number₀ bytes out numbers script number = 4611686018427387904 - number
+μ-loop bytes₀ out₀ space₀ script₀ number₀ bytes out space script number = 4611686018427387904 - number
 
-none-requires : tie.Need-none-requires Inv-loop μ-loop
-none-requires c κs = search needs
+-- a step keeps the lengths of what it is lent
+keeps :
+    (c : tie.After-step Inv-loop μ-loop) →
+    let s = c .before .before .before .before .before .before .before .before .before .before .before .args in
+    (length (c .step .last .0) ≡ length (now (s .bytes))) × (length (c .step .last .1 .0) ≡ length (now (s .out))) × (length (c .step .last .1 .1 .0) ≡ length (now (s .space)))
+keeps c =
+    let h = c .before .before .before .before .before .loop .inv in
+    (c .step .kept .0 ∙ h .0, c .step .kept .1 .0 ∙ h .1, c .step .kept .1 .1 .0 ∙ h .2)
+
+uninitialised-requires : tie.Need-uninitialised-requires Inv-loop μ-loop
+uninitialised-requires c κs = search needs
 
 new-requires : tie.Need-new-requires Inv-loop μ-loop
 new-requires c κs = search needs
@@ -25,13 +36,13 @@ step-requires : tie.Need-step-requires Inv-loop μ-loop
 step-requires c κs = search needs
 
 same-length : tie.Need-same-length Inv-loop μ-loop
-same-length c = search needs
+same-length c = keeps (c .before .before .before .before .before .before .before .before) .0
 
 same-length-2 : tie.Need-same-length-2 Inv-loop μ-loop
-same-length-2 c = search needs
+same-length-2 c = keeps (c .before .before .before .before .before .before .before .before) .1
 
 same-length-3 : tie.Need-same-length-3 Inv-loop μ-loop
-same-length-3 c = search needs
+same-length-3 c = keeps (c .before .before .before .before .before .before .before .before) .2
 
 returns : tie.Need-returns Inv-loop μ-loop
 returns c = search needs
@@ -43,7 +54,9 @@ loop-less : tie.Need-loop-less Inv-loop μ-loop
 loop-less c = search needs
 
 loop-again : tie.Need-loop-again Inv-loop μ-loop
-loop-again c = search needs
+loop-again c =
+    let step = c .before .before .before .before .before .before .before .before in
+    (keeps step .0, keeps step .1, keeps step .2, omega (arith, step .before .before .before .before .loop-test .taken))
 
 same-length-4 : tie.Need-same-length-4 Inv-loop μ-loop
 same-length-4 c = search needs
@@ -63,7 +76,7 @@ run-spec =
     (tie.spec
     Inv-loop
     μ-loop
-    none-requires
+    uninitialised-requires
     new-requires
     loop-holds
     step-requires

@@ -1,0 +1,51 @@
+-- `output::route_buffer::is_kept` is safe and ends: the numbers that are left fall.
+use borrow.Author.Needs.{needs}
+use lib.ListN.{length}
+use Prim.Native.Nat.{_≤_, _-_}
+use Rattle.output.proofs.route_buffer.is_kept.Statement.{statement}
+use Rattle.output.proofs.route_buffer.is_kept.Tie as tie
+
+abbrev Inv-loop : tie.InvT-loop
+Inv-loop route from i₀ i = i ≤ length route
+
+abbrev μ-loop : tie.MeasureT-loop
+μ-loop route from i₀ i = length route - i
+
+loop-holds : tie.Need-loop-holds Inv-loop μ-loop
+loop-holds c = search needs
+
+mul-if1 : tie.Need-mul-if1 Inv-loop μ-loop
+mul-if1 c = search needs
+
+shared-slice-read-if1 : tie.Need-shared-slice-read-if1 Inv-loop μ-loop
+shared-slice-read-if1 c = search needs
+
+returns : tie.Need-returns Inv-loop μ-loop
+returns c = search needs
+
+add-i : tie.Need-add-i Inv-loop μ-loop
+add-i c = search needs
+
+loop-less : tie.Need-loop-less Inv-loop μ-loop
+loop-less c = search needs
+
+loop-again : tie.Need-loop-again Inv-loop μ-loop
+loop-again c = search needs
+
+returns-2 : tie.Need-returns-2 Inv-loop μ-loop
+returns-2 c = search needs
+
+pub is-kept-spec : {M : Type 1} → statement M
+is-kept-spec =
+    tie.close
+    (tie.spec
+    Inv-loop
+    μ-loop
+    loop-holds
+    mul-if1
+    shared-slice-read-if1
+    returns
+    add-i
+    loop-less
+    loop-again
+    returns-2)

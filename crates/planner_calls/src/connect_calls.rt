@@ -1,0 +1,91 @@
+// The calls on the RRT-Connect planner.
+use grammar::Verb;
+use keep_out::KeepOuts;
+use output::nodes;
+use output::replies;
+use output::route_buffer;
+use rrt_connect::RrtConnect;
+use script::Line;
+use script::given;
+
+// Whether the call was made, and the planner after it.
+pub struct Called {
+    pub is_made: bool,
+    pub planner: RrtConnect,
+}
+
+fn setup(out: &mut [u8], planner: RrtConnect, numbers: &[f64], table: KeepOuts) -> RrtConnect {
+    let limits = given::limits(numbers);
+    let segment = given::length(numbers, 6);
+    let max_distance = given::length(numbers, 7);
+    let start = given::state(numbers, 8);
+    let goal = given::goal(numbers, 11);
+    let done = planner.setup(limits, segment, max_distance, start, goal, table);
+    let answer = done.answer;
+    replies::answered(out, answer, 0);
+    done.planner
+}
+
+// The route buffer is the first capacity numbers of a fresh one.
+fn solve(out: &mut [u8], planner: RrtConnect, capacity: usize, samples: &[f64]) -> RrtConnect {
+    let mut buffer = route_buffer::fresh();
+    let route = route_buffer::first(&mut buffer, capacity);
+    let done = planner.solve(samples, route);
+    let answer = done.answer;
+    replies::routed(out, answer, done.count, done.taken, route);
+    done.planner
+}
+
+fn start_table(out: &mut [u8], planner: RrtConnect) {
+    let size = planner.start_size();
+    let mut used = nodes::heading(out, 0, b"start", size);
+    let mut i: usize = 0;
+    while i < size {
+        used = nodes::node(out, used, i, planner.start_node(i));
+        used = output::byte(out, used, b'\n');
+        i += 1;
+    }
+    output::flush(out, used);
+}
+
+fn goal_table(out: &mut [u8], planner: RrtConnect) {
+    let size = planner.goal_size();
+    let mut used = nodes::heading(out, 0, b"goal", size);
+    let mut i: usize = 0;
+    while i < size {
+        used = nodes::node(out, used, i, planner.goal_node(i));
+        used = output::byte(out, used, b'\n');
+        i += 1;
+    }
+    output::flush(out, used);
+}
+
+// The numbers are all that the line has.
+pub fn call(out: &mut [u8], planner: RrtConnect, line: Line, numbers: &[f64]) -> Called {
+    let verb = line.verb;
+    match verb {
+        Verb::Setup => {
+            let table = line.table;
+            Called {
+                is_made: true,
+                planner: setup(out, planner, numbers, table),
+            }
+        }
+        Verb::Solve => Called {
+            is_made: true,
+            planner: solve(out, planner, line.capacity, numbers),
+        },
+        Verb::Tables => {
+            start_table(out, planner);
+            goal_table(out, planner);
+            Called {
+                is_made: true,
+                planner,
+            }
+        }
+        _ => Called {
+            is_made: false,
+            planner,
+        },
+    }
+}

@@ -1,0 +1,78 @@
+// The calls on the RRT planner.
+use grammar::Verb;
+use keep_out::KeepOuts;
+use output::nodes;
+use output::replies;
+use output::route_buffer;
+use rrt::Rrt;
+use script::Line;
+use script::given;
+
+// Whether the call was made, and the planner after it.
+pub struct Called {
+    pub is_made: bool,
+    pub planner: Rrt,
+}
+
+fn setup(out: &mut [u8], planner: Rrt, numbers: &[f64], table: KeepOuts) -> Rrt {
+    let limits = given::limits(numbers);
+    let segment = given::length(numbers, 6);
+    let max_distance = given::length(numbers, 7);
+    let start = given::state(numbers, 8);
+    let goal = given::goal(numbers, 11);
+    let done = planner.setup(limits, segment, max_distance, start, goal, table);
+    let answer = done.answer;
+    replies::answered(out, answer, 0);
+    done.planner
+}
+
+// The route buffer is the first capacity numbers of a fresh one.
+fn solve(out: &mut [u8], planner: Rrt, capacity: usize, samples: &[f64]) -> Rrt {
+    let mut buffer = route_buffer::fresh();
+    let route = route_buffer::first(&mut buffer, capacity);
+    let done = planner.solve(samples, route);
+    let answer = done.answer;
+    replies::routed(out, answer, done.count, done.taken, route);
+    done.planner
+}
+
+fn tables(out: &mut [u8], planner: Rrt) {
+    let size = planner.size();
+    let mut used = nodes::heading(out, 0, b"tree", size);
+    let mut i: usize = 0;
+    while i < size {
+        used = nodes::node(out, used, i, planner.node(i));
+        used = output::byte(out, used, b'\n');
+        i += 1;
+    }
+    output::flush(out, used);
+}
+
+// The numbers are all that the line has.
+pub fn call(out: &mut [u8], planner: Rrt, line: Line, numbers: &[f64]) -> Called {
+    let verb = line.verb;
+    match verb {
+        Verb::Setup => {
+            let table = line.table;
+            Called {
+                is_made: true,
+                planner: setup(out, planner, numbers, table),
+            }
+        }
+        Verb::Solve => Called {
+            is_made: true,
+            planner: solve(out, planner, line.capacity, numbers),
+        },
+        Verb::Tables => {
+            tables(out, planner);
+            Called {
+                is_made: true,
+                planner,
+            }
+        }
+        _ => Called {
+            is_made: false,
+            planner,
+        },
+    }
+}

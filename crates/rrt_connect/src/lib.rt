@@ -1,0 +1,362 @@
+// RRT-Connect (document 01, "RRT-Connect" and "Sizes and answers"): two trees, from the start and from the first sample, that grow
+// toward each other.
+use answer::Answer;
+use columns::Columns;
+use keep_out::KeepOuts;
+use motion::Mount;
+use state::Goal;
+use state::Length;
+use state::Limits;
+use state::State;
+use tree::NodeAt;
+use tree::Tree;
+ghost use mathlib.Core.Path.{_≡_};
+ghost use Prim.Native.Nat.{_≤_, _<_};
+ghost use lib.ListN.{length};
+ghost use Rattle.rrt_connect.specs.Planner.{usableOf, plannerOf, newOf, setupOf, answeredOf, startSizeOf, goalSizeOf, startNodeOf, goalNodeOf};
+ghost use Rattle.rrt_connect.specs.Run.{Runs};
+ghost use Rattle.rrt_connect.specs.Solve.{solvedOf, solveOf};
+
+mod ending;
+mod round;
+mod turn;
+
+// What an accepted setup gave, and the trees that have grown since.
+pub struct RrtConnect {
+    ready: bool,
+    mount: Mount,
+    max_distance: Length,
+    goal: Goal,
+    start_tree: Tree,
+    goal_tree: Tree,
+}
+
+pub struct Answered {
+    pub planner: RrtConnect,
+    pub answer: Answer,
+}
+
+pub struct Solved {
+    pub planner: RrtConnect,
+    pub answer: Answer,
+    // The route's number of states.
+    pub count: usize,
+    // The samples taken.
+    pub taken: usize,
+}
+
+// How a run over the samples ended.
+struct Ran {
+    start: Tree,
+    goal: Tree,
+    answer: Answer,
+    count: usize,
+    taken: usize,
+}
+
+// Whether a setup was accepted, and left trees that a setup can leave.
+fn usable(ready: bool, start: usize, goal: usize) -> bool
+    ensures { λ r. ⌜ r ≡ usableOf ready start goal ⌝ }
+{
+    if ready {
+        if 0 < start {
+            if start <= Tree::MOST {
+                return goal <= Tree::MOST;
+            }
+        }
+    }
+    false
+}
+
+// Each sample in turn, until one ends the run.
+fn run(
+    mount: Mount,
+    max: Length,
+    target: Goal,
+    start: Tree,
+    goal: Tree,
+    samples: &[f64],
+    route: &mut [f64],
+) -> Ran
+    requires { ⌜ (0 < start .count) × (start .count ≤ 512) × (goal .count ≤ 512) × (3069 ≤ length (now route)) ⌝ }
+    ensures { λ r. ⌜ Runs mount max target start goal (now (samples .entry)) (now (route .entry)) r (now (route .exit)) ⌝ }
+{
+    let limits = mount.limits;
+    let segment = mount.segment.value;
+    let columns = Columns::of(mount.table);
+    let rows = columns.count;
+    let mut az = start.az;
+    let mut el = start.el;
+    let mut feed = start.feed;
+    let mut parent = start.parent;
+    let mut n = start.count;
+    let mut goal_az = goal.az;
+    let mut goal_el = goal.el;
+    let mut goal_feed = goal.feed;
+    let mut goal_parent = goal.parent;
+    let mut m = goal.count;
+    let mut at: usize = 0;
+    let mut taken: usize = 0;
+    'samples: while samples.len() - at >= 3 {
+        let sample = State {
+            az: samples[at],
+            el: samples[at + 1],
+            feed: samples[at + 2],
+        };
+        let r = round::round(
+            &mut az,
+            &mut el,
+            &mut feed,
+            &mut parent,
+            n,
+            &mut goal_az,
+            &mut goal_el,
+            &mut goal_feed,
+            &mut goal_parent,
+            m,
+            target,
+            limits,
+            segment,
+            &columns.kinds,
+            &columns.numbers,
+            rows,
+            max.value,
+            sample,
+        );
+        n = r.start;
+        m = r.goal;
+        taken += 1;
+        let ends = r.ends;
+        if ending::goes_on(ends) {
+            at += 3;
+        } else {
+            let count = ending::write(
+                ends,
+                &az,
+                &el,
+                &feed,
+                &parent,
+                n,
+                &goal_az,
+                &goal_el,
+                &goal_feed,
+                &goal_parent,
+                m,
+                route,
+            );
+            return Ran {
+                start: Tree {
+                    az,
+                    el,
+                    feed,
+                    parent,
+                    count: n,
+                },
+                goal: Tree {
+                    az: goal_az,
+                    el: goal_el,
+                    feed: goal_feed,
+                    parent: goal_parent,
+                    count: m,
+                },
+                answer: ending::answer_of(ends),
+                count,
+                taken,
+            };
+        }
+    }
+    Ran {
+        start: Tree {
+            az,
+            el,
+            feed,
+            parent,
+            count: n,
+        },
+        goal: Tree {
+            az: goal_az,
+            el: goal_el,
+            feed: goal_feed,
+            parent: goal_parent,
+            count: m,
+        },
+        answer: Answer::SamplesEnded,
+        count: 0,
+        taken,
+    }
+}
+
+impl RrtConnect {
+    // The length that the route buffer of a solve needs.
+    pub const ROUTE: usize = 3069;
+
+    // Uninitialised.
+    pub fn new() -> RrtConnect
+        ensures { λ r. ⌜ plannerOf r ≡ newOf ⌝ }
+    {
+        let zero = State {
+            az: 0.0,
+            el: 0.0,
+            feed: 0.0,
+        };
+        RrtConnect {
+            ready: false,
+            mount: Mount {
+                limits: Limits {
+                    low: zero,
+                    high: zero,
+                },
+                segment: Length { value: 1.0 },
+                table: KeepOuts::new(),
+            },
+            max_distance: Length { value: 1.0 },
+            goal: Goal {
+                centre: zero,
+                radius: 0.0,
+            },
+            start_tree: Tree::rooted(zero),
+            goal_tree: Tree::none(),
+        }
+    }
+
+    // A refused setup keeps the planner as it was.
+    pub fn setup(
+        self,
+        limits: Limits,
+        segment: Length,
+        max_distance: Length,
+        start: State,
+        goal: Goal,
+        table: KeepOuts,
+    ) -> Answered
+        ensures { λ r. ⌜ answeredOf r ≡ setupOf (plannerOf self) limits segment «max_distance» start goal table ⌝ }
+    {
+        let mount = Mount {
+            limits,
+            segment,
+            table,
+        };
+        if mount.is_good() {
+            if max_distance.is_good() {
+                if start.is_good() {
+                    if goal.is_good() {
+                        let planner = RrtConnect {
+                            ready: true,
+                            mount,
+                            max_distance,
+                            goal,
+                            start_tree: Tree::rooted(start),
+                            goal_tree: Tree::none(),
+                        };
+                        return Answered {
+                            planner,
+                            answer: Answer::Done,
+                        };
+                    }
+                }
+            }
+        }
+        Answered {
+            planner: self,
+            answer: Answer::BadInput,
+        }
+    }
+
+    // A further solve goes on with the same trees.
+    pub fn solve(self, samples: &[f64], route: &mut [f64]) -> Solved
+        ensures { λ r. ⌜ solvedOf r (now (route .exit)) ≡ solveOf (plannerOf self) (now (samples .entry)) (now (route .entry)) ⌝ }
+    {
+        let start = self.start_tree;
+        let goal = self.goal_tree;
+        if usable(self.ready, start.count, goal.count) {
+            if route.len() < RrtConnect::ROUTE {
+                return Solved {
+                    planner: self,
+                    answer: Answer::Room,
+                    count: 0,
+                    taken: 0,
+                };
+            }
+            if samples::are_good(samples) {
+                let ran = run(
+                    self.mount,
+                    self.max_distance,
+                    self.goal,
+                    start,
+                    goal,
+                    samples,
+                    route,
+                );
+                let start_grown = ran.start;
+                let goal_grown = ran.goal;
+                let answer = ran.answer;
+                let mut planner = self;
+                planner.start_tree = start_grown;
+                planner.goal_tree = goal_grown;
+                return Solved {
+                    planner,
+                    answer,
+                    count: ran.count,
+                    taken: ran.taken,
+                };
+            }
+            return Solved {
+                planner: self,
+                answer: Answer::BadInput,
+                count: 0,
+                taken: 0,
+            };
+        }
+        Solved {
+            planner: self,
+            answer: Answer::Uninitialised,
+            count: 0,
+            taken: 0,
+        }
+    }
+
+    // How many nodes the trees have; none before an accepted setup.
+    pub fn start_size(self) -> usize
+        ensures { λ r. ⌜ r ≡ startSizeOf (plannerOf self) ⌝ }
+    {
+        let n = self.start_tree.count;
+        if usable(self.ready, n, self.goal_tree.count) {
+            n
+        } else {
+            0
+        }
+    }
+
+    pub fn goal_size(self) -> usize
+        ensures { λ r. ⌜ r ≡ goalSizeOf (plannerOf self) ⌝ }
+    {
+        let m = self.goal_tree.count;
+        if usable(self.ready, self.start_tree.count, m) {
+            m
+        } else {
+            0
+        }
+    }
+
+    pub fn start_node(self, i: usize) -> NodeAt
+        ensures { λ r. ⌜ r ≡ startNodeOf (plannerOf self) i ⌝ }
+    {
+        let tree = self.start_tree;
+        let n = tree.count;
+        if usable(self.ready, n, self.goal_tree.count) {
+            return tree::node_at(&tree.az, &tree.el, &tree.feed, &tree.parent, n, i);
+        }
+        NodeAt::Nothing
+    }
+
+    pub fn goal_node(self, i: usize) -> NodeAt
+        ensures { λ r. ⌜ r ≡ goalNodeOf (plannerOf self) i ⌝ }
+    {
+        let tree = self.goal_tree;
+        let m = tree.count;
+        if usable(self.ready, self.start_tree.count, m) {
+            return tree::node_at(&tree.az, &tree.el, &tree.feed, &tree.parent, m, i);
+        }
+        NodeAt::Nothing
+    }
+}

@@ -1,0 +1,5 @@
+mod Runs
+mod Lists
+mod Cases
+mod Numerals
+mod Patterns
