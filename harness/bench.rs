@@ -1,4 +1,4 @@
-//! Times RRT's setup and solve in the original Rust and in the proved code: one run, the same inputs, thread time, the best of
+//! Times the tree planners' setup and solve in the original Rust and in the proved code: one run, the same inputs, thread time, the best of
 //! many rounds. Compiled without `--cfg proved` it times the Rust alone.
 
 #[path = "timing/original.rs"]
@@ -36,7 +36,7 @@ fn describe(workload: &Workload) {
     let samples = workload.samples.len();
     let nodes = original::nodes(workload);
     let points = original::points(workload) as f64 / samples as f64;
-    let refused = 100.0 * (samples - (nodes - 1)) as f64 / samples as f64;
+    let refused = 100.0 * samples.saturating_sub(nodes - 1) as f64 / samples as f64;
     let keep_outs = workload.mount.keep_outs.len();
     println!("{}", workload.name);
     println!(

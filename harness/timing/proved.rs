@@ -2,7 +2,7 @@
 //! function's form stands here.
 
 use crate::original::Outcome;
-use crate::workloads::Workload;
+use crate::workloads::{Planner, Workload};
 use oxmpl::mount::KeepOut;
 
 /// What the exported function gives.
@@ -13,9 +13,31 @@ struct Report {
     taken: usize,
 }
 
+/// Setup and one solve. A slice is handed over as its address and its length, an array as its address.
+type Call = unsafe extern "C" fn(
+    setup: *const [f64; 15],
+    kinds: *const [u8; 32],
+    numbers: *const [f64; 192],
+    keep_outs: usize,
+    samples: *const f64,
+    samples_length: usize,
+    route: *mut f64,
+    route_length: usize,
+) -> Report;
+
 unsafe extern "C" {
-    /// Setup and one solve. A slice is handed over as its address and its length, an array as its address.
     fn rindmosaic_rrt(
+        setup: *const [f64; 15],
+        kinds: *const [u8; 32],
+        numbers: *const [f64; 192],
+        keep_outs: usize,
+        samples: *const f64,
+        samples_length: usize,
+        route: *mut f64,
+        route_length: usize,
+    ) -> Report;
+
+    fn rindmosaic_connect(
         setup: *const [f64; 15],
         kinds: *const [u8; 32],
         numbers: *const [f64; 192],
@@ -27,10 +49,12 @@ unsafe extern "C" {
     ) -> Report;
 }
 
-const ROUTE: usize = 1536;
+/// The longest route buffer that a solve needs.
+const ROUTE: usize = 3069;
 
 /// What the calls take and write, made before the time is taken.
 pub struct Prepared {
+    call: Call,
     setup: [f64; 15],
     kinds: [u8; 32],
     numbers: [f64; 192],
@@ -55,6 +79,10 @@ pub fn prepare(workload: &Workload) -> Prepared {
         }
     }
     Prepared {
+        call: match workload.planner {
+            Planner::Rrt => rindmosaic_rrt,
+            Planner::Connect => rindmosaic_connect,
+        },
         setup: setup.try_into().expect("fifteen numbers of a setup"),
         kinds,
         numbers,
@@ -82,7 +110,7 @@ fn keep_out_numbers(keep_out: &KeepOut) -> Vec<f64> {
 
 pub fn run(prepared: &mut Prepared) -> Outcome {
     let report = unsafe {
-        rindmosaic_rrt(
+        (prepared.call)(
             &prepared.setup,
             &prepared.kinds,
             &prepared.numbers,

@@ -1,11 +1,18 @@
-//! The four workloads: scene and samples. In each the goal is out of reach, so that the whole list is worked through.
+//! The workloads: scene and samples. In each the goal is out of reach, so that the whole list is worked through.
 
 use crate::original;
 use crate::random::Random;
 use oxmpl::mount::{GoalRegion, KeepOut, Mount, State};
 
+#[derive(Clone, Copy, PartialEq)]
+pub enum Planner {
+    Rrt,
+    Connect,
+}
+
 pub struct Workload {
     pub name: &'static str,
+    pub planner: Planner,
     pub mount: Mount,
     pub segment: f64,
     pub max_distance: f64,
@@ -22,6 +29,8 @@ pub fn all() -> Vec<Workload> {
         filled(dish("b: 511 nodes, 8 keep-outs", 3.75, eight())),
         dish("c: 2,000 samples, most refused", 3.75, pocket()),
         filled(wide("d: 40 points, 32 keep-outs", 39.5, thirty_two())),
+        filled(apart("e: RRT-Connect, both trees to 512, no keep-outs", Vec::new())),
+        filled(apart("f: RRT-Connect, both trees to 512, 8 keep-outs", at_both_ends())),
     ]
 }
 
@@ -37,9 +46,19 @@ fn wide(name: &'static str, max_distance: f64, keep_outs: Vec<KeepOut>) -> Workl
     workload(name, mount, max_distance, State::new(&[0.0; 3]))
 }
 
+/// Two trees for RRT-Connect in opposite corners, whose steps are so short that they do not meet before they are full.
+fn apart(name: &'static str, keep_outs: Vec<KeepOut>) -> Workload {
+    let mount = Mount { low: State::new(&[-1000.0; 3]), high: State::new(&[1000.0; 3]), keep_outs };
+    let mut workload = workload(name, mount, 1.5, State::new(&[-1000.0; 3]));
+    workload.planner = Planner::Connect;
+    workload.segment = 4.0;
+    workload.samples.insert(0, State::new(&[1000.0; 3]));
+    workload
+}
+
 fn workload(name: &'static str, mount: Mount, max_distance: f64, start: State) -> Workload {
     let goal = GoalRegion { centre: State::new(&[1024.0; 3]), radius: 0.0 };
-    let mut workload = Workload { name, mount, segment: 10.0, max_distance, start, goal, samples: Vec::new() };
+    let mut workload = Workload { name, planner: Planner::Rrt, mount, segment: 10.0, max_distance, start, goal, samples: Vec::new() };
     workload.samples = uniform(&workload.mount, 2000);
     workload
 }
@@ -101,6 +120,20 @@ fn pocket() -> Vec<KeepOut> {
         KeepOut::Floor { elevation: 20.0 },
         disc(20.0, 60.0, 6.0),
         disc(-20.0, 30.0, 6.0),
+    ]
+}
+
+/// Four at each of the two corners, of the three kinds, that stop some motions.
+fn at_both_ends() -> Vec<KeepOut> {
+    vec![
+        solid([-990.0, -995.0, -995.0], [-985.0, -985.0, -985.0]),
+        disc(-960.0, -970.0, 5.0),
+        solid([-980.0, -950.0, -970.0], [-960.0, -940.0, -950.0]),
+        KeepOut::Floor { elevation: -1000.5 },
+        solid([985.0, 985.0, 985.0], [990.0, 995.0, 995.0]),
+        disc(960.0, 970.0, 5.0),
+        solid([960.0, 940.0, 950.0], [980.0, 950.0, 970.0]),
+        disc(940.0, 980.0, 4.0),
     ]
 }
 

@@ -14,7 +14,8 @@ use Rattle.rrt.specs.declared.Solved.{Solved}
 use Rattle.rrt.specs.Planner.{Planner, Told, newOf, plannerOf, answeredOf, setupOf}
 use Rattle.rrt.specs.Solve.{Outcome, solvedOf, solveOf, refusedOf}
 use Rattle.host.specs.Table.{Listed}
-use Rattle.host.specs.Call.{limitsIn, startIn, goalIn, toldOf, afterSetup, Called}
+use Rattle.host.specs.Setup.{limitsIn, startIn, goalIn}
+use Rattle.host.specs.Call.{toldOf, afterSetup, Called}
 
 module _ (setup : List Float) (kinds : List ℕ) (numbers : List Float) (keepOuts : ℕ) (samples old : List Float) (table : KeepOuts) (listed : Listed kinds numbers keepOuts table)
     (fresh : Rrt) (is-new : plannerOf fresh ≡ newOf) (made : Answered)

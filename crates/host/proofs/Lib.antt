@@ -1,3 +1,4 @@
 -- The crate's laws that belong to no one function.
 pub mod Listing
 pub mod Calls
+pub mod ConnectCalls

@@ -1,2 +1,4 @@
+pub mod Setup
 pub mod Table
 pub mod Call
+pub mod Connect

@@ -1,33 +1,26 @@
+-- `columns::flattened` meets its contract.
 use Rattle.columns.specs.Rows.{rowOf}
 use borrow.Author.Needs.{needs}
 use Rattle.columns.proofs.flattened.Statement.{statement}
 use Rattle.columns.proofs.flattened.Tie as tie
-use Rattle.columns.proofs.flattened.Reads as reads
-use Rattle.columns.proofs.flattened.Lts as lts
 
--- src/lib.rt:33:24
 enum-known-k : tie.Need-enum-known-k
 enum-known-k c = search needs
 
--- src/lib.rt:42:25
 enum-known-k-2 : tie.Need-enum-known-k-2
 enum-known-k-2 c = search needs
 
--- src/lib.rt:51:24
 enum-known-k-3 : tie.Need-enum-known-k-3
 enum-known-k-3 c = search needs
 
--- src/lib.rt:29:1
 returns : tie.Need-returns
 unfolding rowOf
 returns c = cc
 
--- src/lib.rt:29:1
 returns-2 : tie.Need-returns-2
 unfolding rowOf
 returns-2 c = rw (c .before .k2 .given .1)
 
--- src/lib.rt:29:1
 returns-3 : tie.Need-returns-3
 unfolding rowOf
 returns-3 c = rw (c .before .k3 .given .1)

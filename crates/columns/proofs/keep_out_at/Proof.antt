@@ -1,138 +1,105 @@
+-- `columns::keep_out_at` meets its contract.
 use Rattle.columns.proofs.Rows.{a-box, a-disc, a-floor}
 use Rattle.columns.specs.Rows.{keepOutAt, rowAt}
 use borrow.Author.Needs.{needs}
 use Rattle.columns.proofs.keep_out_at.Statement.{statement}
 use Rattle.columns.proofs.keep_out_at.Tie as tie
-use Rattle.columns.proofs.keep_out_at.Reads as reads
-use Rattle.columns.proofs.keep_out_at.Lts as lts
 
--- src/lib.rt:68:14
 mul-at : tie.Need-mul-at
 mul-at c = search needs
 
--- src/lib.rt:69:16
 element-copy-out-kind : tie.Need-element-copy-out-kind
 element-copy-out-kind c = search needs
 
--- src/lib.rt:73:21
 mul-t10 : tie.Need-mul-t10
 mul-t10 c = search needs
 
--- src/lib.rt:73:21
 element-copy-out-t13 : tie.Need-element-copy-out-t13
 element-copy-out-t13 c = search needs
 
--- src/lib.rt:74:29
 add-t14 : tie.Need-add-t14
 add-t14 c = search needs
 
--- src/lib.rt:74:21
 mul-t15 : tie.Need-mul-t15
 mul-t15 c = search needs
 
--- src/lib.rt:74:21
 element-copy-out-t18 : tie.Need-element-copy-out-t18
 element-copy-out-t18 c = search needs
 
--- src/lib.rt:75:31
 add-t19 : tie.Need-add-t19
 add-t19 c = search needs
 
--- src/lib.rt:75:23
 mul-t20 : tie.Need-mul-t20
 mul-t20 c = search needs
 
--- src/lib.rt:75:23
 element-copy-out-t23 : tie.Need-element-copy-out-t23
 element-copy-out-t23 c = search needs
 
--- src/lib.rt:78:29
 add-t25 : tie.Need-add-t25
 add-t25 c = search needs
 
--- src/lib.rt:78:21
 mul-t26 : tie.Need-mul-t26
 mul-t26 c = search needs
 
--- src/lib.rt:78:21
 element-copy-out-t29 : tie.Need-element-copy-out-t29
 element-copy-out-t29 c = search needs
 
--- src/lib.rt:79:29
 add-t30 : tie.Need-add-t30
 add-t30 c = search needs
 
--- src/lib.rt:79:21
 mul-t31 : tie.Need-mul-t31
 mul-t31 c = search needs
 
--- src/lib.rt:79:21
 element-copy-out-t34 : tie.Need-element-copy-out-t34
 element-copy-out-t34 c = search needs
 
--- src/lib.rt:80:31
 add-t35 : tie.Need-add-t35
 add-t35 c = search needs
 
--- src/lib.rt:80:23
 mul-t36 : tie.Need-mul-t36
 mul-t36 c = search needs
 
--- src/lib.rt:80:23
 element-copy-out-t39 : tie.Need-element-copy-out-t39
 element-copy-out-t39 c = search needs
 
--- src/lib.rt:84:17
 mul-t41 : tie.Need-mul-t41
 mul-t41 c = search needs
 
--- src/lib.rt:84:17
 element-copy-out-t44 : tie.Need-element-copy-out-t44
 element-copy-out-t44 c = search needs
 
--- src/lib.rt:85:25
 add-t45 : tie.Need-add-t45
 add-t45 c = search needs
 
--- src/lib.rt:85:17
 mul-t46 : tie.Need-mul-t46
 mul-t46 c = search needs
 
--- src/lib.rt:85:17
 element-copy-out-t49 : tie.Need-element-copy-out-t49
 element-copy-out-t49 c = search needs
 
--- src/lib.rt:86:29
 add-t50 : tie.Need-add-t50
 add-t50 c = search needs
 
--- src/lib.rt:86:21
 mul-t51 : tie.Need-mul-t51
 mul-t51 c = search needs
 
--- src/lib.rt:86:21
 element-copy-out-t54 : tie.Need-element-copy-out-t54
 element-copy-out-t54 c = search needs
 
--- src/lib.rt:88:29
 mul-t55 : tie.Need-mul-t55
 mul-t55 c = search needs
 
--- src/lib.rt:88:29
 element-copy-out-t58 : tie.Need-element-copy-out-t58
 element-copy-out-t58 c = search needs
 
--- src/lib.rt:64:1
 returns : tie.Need-returns
 unfolding keepOutAt
 returns c = a-box _ (c .before .before .before .before .before .before .match .keys1)
 
--- src/lib.rt:64:1
 returns-2 : tie.Need-returns-2
 unfolding keepOutAt
 returns-2 c = a-disc _ (c .before .before .before .match .keys2)
 
--- src/lib.rt:64:1
 returns-3 : tie.Need-returns-3
 unfolding keepOutAt
 returns-3 c = a-floor _ (c .before .match .rest .0 .1) (c .before .match .rest .1)

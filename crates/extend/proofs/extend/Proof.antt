@@ -1,66 +1,51 @@
+-- `extend::extend` meets its contract.
 use Rattle.extend.proofs.Extends.{refused, full, added}
 use borrow.Author.Needs.{needs}
 use Rattle.extend.proofs.extend.Statement.{statement}
 use Rattle.extend.proofs.extend.Tie as tie
-use Rattle.extend.proofs.extend.Reads as reads
-use Rattle.extend.proofs.extend.Lts as lts
-use Rattle.tree.proofs.step.Reads as step-reads
 
--- src/lib.rt:46:9
 step-requires : tie.Need-step-requires
 step-requires c κs = search needs
 
--- src/lib.rt:50:13
 mul-az : tie.Need-mul-az
 mul-az c = search needs
 
--- src/lib.rt:50:13
 element-write-az : tie.Need-element-write-az
 element-write-az c = search needs
 
--- src/lib.rt:51:13
 mul-el : tie.Need-mul-el
 mul-el c = search needs
 
--- src/lib.rt:51:13
 element-write-el : tie.Need-element-write-el
 element-write-el c = search needs
 
--- src/lib.rt:52:13
 mul-feed : tie.Need-mul-feed
 mul-feed c = search needs
 
--- src/lib.rt:52:13
 element-write-feed : tie.Need-element-write-feed
 element-write-feed c = search needs
 
--- src/lib.rt:53:13
 mul-parent : tie.Need-mul-parent
 mul-parent c = search needs
 
--- src/lib.rt:53:13
 element-write-parent : tie.Need-element-write-parent
 element-write-parent c = search needs
 
--- src/lib.rt:58:24
 add-t20 : tie.Need-add-t20
 add-t20 c = search needs
 
--- src/lib.rt:54:13
 returns : tie.Need-returns
 returns c =
     let step = c .before .before .before in
     let s = step .before .before .before .before in
     added _ _ _ _ _ _ _ _ _ (s .pre .0) (s .pre .1) (s .pre .2) _ (step .step .result) (step .step .ensures) (c .before .if1 .taken) (c .if2 .taken)
 
--- src/lib.rt:61:9
 returns-2 : tie.Need-returns-2
 returns-2 c =
     let step = c .before .before .before in
     let s = step .before .before .before .before in
     full _ _ _ _ _ _ _ _ _ (s .pre .0) (s .pre .1) (s .pre .2) _ (step .step .result) (step .step .ensures) (c .before .if1 .taken) (c .if2 .left)
 
--- src/lib.rt:29:1
 returns-3 : tie.Need-returns-3
 returns-3 c =
     let step = c .before .before in

@@ -1,3 +1,4 @@
+-- `host::table_of` meets its contract.
 use Prim.Native.Nat.{ℕ, _≤_, _<_, _-_, _+_, min}
 use mathlib.Core.Logic.{⊎-elim}
 use mathlib.Core.Path.{_≡_, refl, sym, _∙_, ap}
@@ -12,10 +13,6 @@ use Rattle.columns.proofs.Spread.{Rowed}
 use Rattle.host.proofs.Listing.{empty-size, rowed-set, listed-is}
 use Rattle.host.proofs.table_of.Statement.{statement}
 use Rattle.host.proofs.table_of.Tie as tie
-use Rattle.host.proofs.table_of.Reads as reads
-use Rattle.host.proofs.table_of.Lts as lts
-use Rattle.columns.proofs.keep_out_at.Reads as keep-out-at-reads
-use Rattle.keep_out.proofs.KeepOuts.new.Reads as new-reads
 
 -- what would stand past the table's end
 abbrev none : Slot
@@ -28,11 +25,9 @@ Inv-rows kinds numbers count rows table₀ j₀ table j =
 abbrev μ-rows : tie.MeasureT-rows
 μ-rows kinds numbers count rows table₀ j₀ table j = rows - j
 
--- src/lib.rt:26:21
 new-requires : tie.Need-new-requires Inv-rows μ-rows
 new-requires c κs = search needs
 
--- src/lib.rt:28:5
 rows-holds : tie.Need-rows-holds Inv-rows μ-rows
 rows-holds c =
     let e : c .before .if1 .rows ≡ min (c .before .before .args .count) 32 = ⊎-elim (λ w. omega arith) (λ w. omega arith) (c .before .if1 .came) in
@@ -41,27 +36,21 @@ rows-holds c =
     nothing : (i : ℕ) → i < 0 → ⊥
     nothing i h = omega arith
 
--- src/lib.rt:29:13
 keep-out-at-requires : tie.Need-keep-out-at-requires Inv-rows μ-rows
 keep-out-at-requires c κs = omega arith
 
--- src/lib.rt:30:9
 mul-t13 : tie.Need-mul-t13 Inv-rows μ-rows
 mul-t13 c = omega arith
 
--- src/lib.rt:30:9
 element-set-from-table : tie.Need-element-set-from-table Inv-rows μ-rows
 element-set-from-table c = omega arith
 
--- src/lib.rt:31:9
 add-j : tie.Need-add-j Inv-rows μ-rows
 add-j c = omega arith
 
--- src/lib.rt:28:5
 rows-less : tie.Need-rows-less Inv-rows μ-rows
 rows-less c = omega arith
 
--- src/lib.rt:28:5
 rows-again : tie.Need-rows-again Inv-rows μ-rows
 rows-again c =
     let turn = c .before in
@@ -69,7 +58,6 @@ rows-again c =
     let room : turn .before .rows .j < length (turn .before .rows .table .slots) = omega arith in
     (omega arith, h .1, simp length-set (h .2), rowed-set _ _ (turn .before .rows .table .slots) none _ (c .keep-out-at .result) room (c .keep-out-at .ensures) (h .3))
 
--- src/lib.rt:22:1
 returns : tie.Need-returns Inv-rows μ-rows
 returns c =
     let h = c .before .rows .inv in

@@ -1,3 +1,4 @@
+-- `motion::accepts` meets its contract.
 use Prim.Native.Nat.{ℕ, _≤_, _<_, _-_, _+_, min, max}
 use mathlib.Core.Bool.{Bool}
 use mathlib.Core.Logic.{⊎-elim}
@@ -17,13 +18,6 @@ use Rattle.motion.proofs.Search.{steps-few}
 use Rattle.motion.proofs.Walk.{leftAt, tested-are, walk-end, point-out, point-hit, point-free, accepts-many, accepts-count}
 use Rattle.motion.proofs.accepts.Statement.{statement}
 use Rattle.motion.proofs.accepts.Tie as tie
-use Rattle.motion.proofs.accepts.Reads as reads
-use Rattle.motion.proofs.accepts.Lts as lts
-use Rattle.columns.proofs.keep_out_at.Reads as keep-out-at-reads
-use Rattle.keep_out.proofs.KeepOut.covers.Reads as covers-reads
-use Rattle.motion.proofs.num_steps.Reads as num-steps-reads
-use Rattle.motion.proofs.point.Reads as point-reads
-use Rattle.state.proofs.State.within.Reads as within-reads
 
 abbrev Inv-keep-outs : tie.InvT-keep-outs
 Inv-keep-outs limits segment kinds numbers count from to n rows last i s j₀ j =
@@ -55,19 +49,15 @@ count-is c = sym (c .before .n .given .1) ∙ c .before .before .before .num-ste
 num-steps-requires : tie.Need-num-steps-requires Inv-keep-outs μ-keep-outs Inv-points μ-points
 num-steps-requires c κs = search needs
 
--- src/lib.rt:81:22
 enum-known-n : tie.Need-enum-known-n Inv-keep-outs μ-keep-outs Inv-points μ-points
 enum-known-n c = search needs
 
--- src/lib.rt:82:9
 enum-told : tie.Need-enum-told Inv-keep-outs μ-keep-outs Inv-points μ-points
 enum-told c = search needs
 
--- src/lib.rt:82:9
 returns : tie.Need-returns Inv-keep-outs μ-keep-outs Inv-points μ-points
 returns c = accepts-many _ _ _ _ _ (sym (c .enum-told .given .1) ∙ c .before .before .num-steps .ensures)
 
--- src/lib.rt:87:5
 points-holds : tie.Need-points-holds Inv-keep-outs μ-keep-outs Inv-points μ-points
 points-holds c =
     let told = c .before .before in
@@ -86,29 +76,23 @@ points-holds c =
           ∙ ap (allValid (a .limits) ks) (tested-are (a .from) (a .to) n last (λ h. omega arith) (λ h. omega arith)) ∙ rw z,
     )
 
--- src/lib.rt:88:13
 point-requires : tie.Need-point-requires Inv-keep-outs μ-keep-outs Inv-points μ-points
 point-requires c κs = search needs
 
--- src/lib.rt:89:12
 within-requires : tie.Need-within-requires Inv-keep-outs μ-keep-outs Inv-points μ-points
 within-requires c κs = search needs
 
--- src/lib.rt:91:13
 keep-outs-holds : tie.Need-keep-outs-holds Inv-keep-outs μ-keep-outs Inv-points μ-points
 keep-outs-holds c =
     let h = c .before .before .before .before .points .inv in
     (omega arith, covered-are _ _ _ _ _ (h .2))
 
--- src/lib.rt:92:21
 keep-out-at-requires : tie.Need-keep-out-at-requires Inv-keep-outs μ-keep-outs Inv-points μ-points
 keep-out-at-requires c κs = search needs
 
--- src/lib.rt:93:20
 covers-requires : tie.Need-covers-requires Inv-keep-outs μ-keep-outs Inv-points μ-points
 covers-requires c κs = search needs
 
--- src/lib.rt:94:21
 returns-2 : tie.Need-returns-2 Inv-keep-outs μ-keep-outs Inv-points μ-points
 returns-2 c =
     let turn = c .before .before .before in
@@ -121,37 +105,30 @@ returns-2 c =
     (way .inv .3
     ∙ point-hit _ _ _ _ _ _ _ _ (point .before .points-test .taken) (point .point .ensures) (sym (inside .before .within .ensures) ∙ inside .if3 .taken) hit)
 
--- src/lib.rt:96:17
 add-j : tie.Need-add-j Inv-keep-outs μ-keep-outs Inv-points μ-points
 add-j c = omega arith
 
--- src/lib.rt:91:13
 keep-outs-less : tie.Need-keep-outs-less Inv-keep-outs μ-keep-outs Inv-points μ-points
 keep-outs-less c = omega arith
 
--- src/lib.rt:91:13
 keep-outs-again : tie.Need-keep-outs-again Inv-keep-outs μ-keep-outs Inv-points μ-points
 keep-outs-again c =
     let turn = c .before .before .before in
     let h = turn .before .keep-outs .inv in
     (omega arith, h .1 ∙ covered-later _ _ _ _ _ (turn .keep-outs-test .taken) (covered _ _ _ _ _ (c .before .covers .ensures) (c .before .before .keep-out-at .ensures) (c .if4 .left)))
 
--- src/lib.rt:99:13
 returns-3 : tie.Need-returns-3 Inv-keep-outs μ-keep-outs Inv-points μ-points
 returns-3 c =
     let point = c .before .before in
     let way = point .before .before .points in
     sym (way .inv .3 ∙ point-out _ _ _ _ _ _ _ _ (point .before .points-test .taken) (point .point .ensures) (sym (c .before .within .ensures) ∙ c .if3 .left))
 
--- src/lib.rt:101:9
 add-i : tie.Need-add-i Inv-keep-outs μ-keep-outs Inv-points μ-points
 add-i c = omega arith
 
--- src/lib.rt:87:5
 points-less : tie.Need-points-less Inv-keep-outs μ-keep-outs Inv-points μ-points
 points-less c = omega arith
 
--- src/lib.rt:87:5
 points-again : tie.Need-points-again Inv-keep-outs μ-keep-outs Inv-points μ-points
 points-again c =
     let inside = c .before .before in
@@ -165,7 +142,6 @@ points-again c =
           ∙ point-free _ _ _ _ _ _ _ _ (point .before .points-test .taken) (point .point .ensures) (sym (inside .before .within .ensures) ∙ inside .if3 .taken) free,
     )
 
--- src/lib.rt:70:1
 returns-4 : tie.Need-returns-4 Inv-keep-outs μ-keep-outs Inv-points μ-points
 returns-4 c =
     let h = c .before .points .inv in

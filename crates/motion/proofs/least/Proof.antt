@@ -1,3 +1,4 @@
+-- `motion::least` meets its contract.
 use Prim.Native.Nat.{_<_}
 use mathlib.Core.Bool.{false}
 use lib.Ieee.{le}
@@ -9,8 +10,6 @@ use Rattle.motion.specs.Points.{searchOf, leastOf}
 use Rattle.motion.proofs.Search.{exact, search-here, search-past, not-last}
 use Rattle.motion.proofs.least.Statement.{statement}
 use Rattle.motion.proofs.least.Tie as tie
-use Rattle.motion.proofs.least.Reads as reads
-use Rattle.motion.proofs.least.Lts as lts
 
 abbrev Inv-numbers : tie.InvT-numbers
 Inv-numbers q n₀ n = (n ≤ 4096) × (leastOf q ≡ searchOf (4096 - n) n q)
@@ -18,28 +17,22 @@ Inv-numbers q n₀ n = (n ≤ 4096) × (leastOf q ≡ searchOf (4096 - n) n q)
 abbrev μ-numbers : tie.MeasureT-numbers
 μ-numbers q n₀ n = 4096 - n
 
--- src/lib.rt:198:13
 numbers-holds : tie.Need-numbers-holds Inv-numbers μ-numbers
 unfolding leastOf
 numbers-holds c = (search needs, refl)
 
--- src/lib.rt:199:21
 int-to-float-if1 : tie.Need-int-to-float-if1 Inv-numbers μ-numbers
 int-to-float-if1 c = exact _ (c .before .numbers .inv .0)
 
--- src/lib.rt:202:13
 add-n : tie.Need-add-n Inv-numbers μ-numbers
 add-n c = omega arith
 
--- src/lib.rt:198:13
 numbers-less : tie.Need-numbers-less Inv-numbers μ-numbers
 numbers-less c = let p = not-last _ _ (c .before .before .before .pre) (c .before .before .numbers .inv .0) (c .if1 .left) in omega arith
 
--- src/lib.rt:198:13
 numbers-again : tie.Need-numbers-again Inv-numbers μ-numbers
 numbers-again c = let p = not-last _ _ (c .before .before .before .pre) (c .before .before .numbers .inv .0) (c .if1 .left) in (omega arith, c .before .before .numbers .inv .1 ∙ search-past _ _ p (c .if1 .left))
 
--- src/lib.rt:193:5
 returns : tie.Need-returns Inv-numbers μ-numbers
 returns c = record { is = sym (c .before .before .numbers .inv .1 ∙ search-here _ _ _ (c .if1 .taken)); small = c .before .before .numbers .inv .0 }
 

@@ -1,3 +1,4 @@
+-- `route::append_ancestors` meets its contract.
 use Prim.Native.Nat.{ℕ, _+_, _-_, _*_, _≤_, _<_}
 use mathlib.Core.List.{List, [], _∷_, _++_}
 use mathlib.Core.Path.{_≡_, refl, sym, _∙_, ap}
@@ -14,9 +15,6 @@ use Rattle.route.proofs.Upwards.{placed-behind, up-starts, up-one, up-e
 use Rattle.route.proofs.View.{nodes-many, state-in, parent-in}
 use Rattle.route.proofs.append_ancestors.Statement.{statement}
 use Rattle.route.proofs.append_ancestors.Tie as tie
-use Rattle.route.proofs.append_ancestors.Reads as reads
-use Rattle.route.proofs.append_ancestors.Lts as lts
-use Rattle.route.proofs.put.Reads as put-reads
 
 abbrev Inv-up : tie.InvT-up
 Inv-up az el feed parent count node route₀ from at₀ k₀ route at k =
@@ -41,7 +39,6 @@ up-is :
     parentAt (nodes (c .before .before .before)) (c .before .up .at) ≡ getD (now (c .before .before .before .args .parent)) (c .before .up .at) 0
 up-is c = parent-in _ _ _ _ _ (c .before .before .before .pre .1) _ (c .before .up .inv .0)
 
--- src/lib.rt:99:5
 up-holds : tie.Need-up-holds Inv-up μ-up
 unfolding flatOf
 up-holds c =
@@ -49,63 +46,48 @@ up-holds c =
     let z : 3 * (s .args .from + 0) ≡ 3 * s .args .from = omega arith in
     (s .pre .0, omega arith, refl, ([], refl, up-starts (nodes s) _ (many s) _, sym (rw z (take-append-drop (3 * s .args .from) (now (s .args .route))))))
 
--- src/lib.rt:99:16
 add-up : tie.Need-add-up Inv-up μ-up
 add-up c = omega arith
 
--- src/lib.rt:100:17
 mul-p : tie.Need-mul-p Inv-up μ-up
 mul-p c = omega arith
 
--- src/lib.rt:100:17
 element-copy-out-p : tie.Need-element-copy-out-p Inv-up μ-up
 element-copy-out-p c = omega arith
 
--- src/lib.rt:103:21
 mul-t18 : tie.Need-mul-t18 Inv-up μ-up
 mul-t18 c = omega arith
 
--- src/lib.rt:103:21
 element-copy-out-t21 : tie.Need-element-copy-out-t21 Inv-up μ-up
 element-copy-out-t21 c = omega arith
 
--- src/lib.rt:104:21
 mul-t22 : tie.Need-mul-t22 Inv-up μ-up
 mul-t22 c = omega arith
 
--- src/lib.rt:104:21
 element-copy-out-t25 : tie.Need-element-copy-out-t25 Inv-up μ-up
 element-copy-out-t25 c = omega arith
 
--- src/lib.rt:105:23
 mul-t26 : tie.Need-mul-t26 Inv-up μ-up
 mul-t26 c = omega arith
 
--- src/lib.rt:105:23
 element-copy-out-t29 : tie.Need-element-copy-out-t29 Inv-up μ-up
 element-copy-out-t29 c = omega arith
 
--- src/lib.rt:107:29
 add-put : tie.Need-add-put Inv-up μ-up
 add-put c = omega arith
 
--- src/lib.rt:107:24
 mul-put : tie.Need-mul-put Inv-up μ-up
 mul-put c = omega arith
 
--- src/lib.rt:107:13
 put-requires : tie.Need-put-requires Inv-up μ-up
 put-requires c κs = omega arith
 
--- src/lib.rt:109:13
 add-k : tie.Need-add-k Inv-up μ-up
 add-k c = omega arith
 
--- src/lib.rt:99:5
 up-less : tie.Need-up-less Inv-up μ-up
 up-less c = omega arith
 
--- src/lib.rt:99:5
 up-again : tie.Need-up-again Inv-up μ-up
 up-again c =
     let put = c .before .before in
@@ -132,11 +114,9 @@ up-again c =
       ),
     )
 
--- src/lib.rt:111:13
 same-length : tie.Need-same-length Inv-up μ-up
 same-length c = c .before .before .before .up .inv .2
 
--- src/lib.rt:111:13
 returns : tie.Need-returns Inv-up μ-up
 returns c =
     let turn = c .before .before in
@@ -150,11 +130,9 @@ returns c =
       few = omega (arith, many s);
     }
 
--- src/lib.rt:84:1
 same-length-2 : tie.Need-same-length-2 Inv-up μ-up
 same-length-2 c = c .before .up .inv .2
 
--- src/lib.rt:84:1
 returns-2 : tie.Need-returns-2 Inv-up μ-up
 returns-2 c =
     let s = c .before .before .before in

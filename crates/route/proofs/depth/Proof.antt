@@ -1,3 +1,4 @@
+-- `route::depth` meets its contract.
 use Prim.Native.Nat.{ℕ, _+_, _-_, _≤_, _<_}
 use mathlib.Core.List.{List, [], _∷_}
 use mathlib.Core.Path.{_≡_, refl, sym, _∙_, ap, subst}
@@ -12,8 +13,6 @@ use Rattle.route.proofs.Climb.{climb-out, climb-top, path-starts, one-u
 use Rattle.route.proofs.View.{nodes-many, parent-in}
 use Rattle.route.proofs.depth.Statement.{statement}
 use Rattle.route.proofs.depth.Tie as tie
-use Rattle.route.proofs.depth.Reads as reads
-use Rattle.route.proofs.depth.Lts as lts
 
 abbrev Inv-up : tie.InvT-up
 Inv-up az el feed parent count node at₀ n₀ at n =
@@ -37,27 +36,21 @@ up-is :
     parentAt (nodes (c .before .before)) (c .before .up .at) ≡ getD (now (c .before .before .args .parent)) (c .before .up .at) 0
 up-is c = parent-in _ _ _ _ _ (c .before .before .pre .1) _ (c .before .up .inv .0)
 
--- src/lib.rt:24:5
 up-holds : tie.Need-up-holds Inv-up μ-up
 up-holds c = (c .pre .0, omega arith, omega arith, ([], omega arith, path-starts _ _ _ (many c)))
 
--- src/lib.rt:25:17
 mul-p : tie.Need-mul-p Inv-up μ-up
 mul-p c = omega arith
 
--- src/lib.rt:25:17
 element-copy-out-p : tie.Need-element-copy-out-p Inv-up μ-up
 element-copy-out-p c = omega arith
 
--- src/lib.rt:28:13
 add-n : tie.Need-add-n Inv-up μ-up
 add-n c = omega arith
 
--- src/lib.rt:24:5
 up-less : tie.Need-up-less Inv-up μ-up
 up-less c = omega arith
 
--- src/lib.rt:24:5
 up-again : tie.Need-up-again Inv-up μ-up
 up-again c =
     let turn = c .before .before in
@@ -75,7 +68,6 @@ up-again c =
       ),
     )
 
--- src/lib.rt:30:13
 returns : tie.Need-returns Inv-up μ-up
 returns c =
     let turn = c .before .before in
@@ -84,7 +76,6 @@ returns c =
     let past : length (nodes start .states) ≤ parentAt (nodes start) (turn .before .up .at) = omega (arith, many start, up-is turn, c .if1 .left) in
     record { is = sym (ap length (h .3 .2 ∙ climb-top (nodes start) (turn .before .up .at) (h .3 .0) _ past) ∙ omega arith); some = h .1; few = omega (arith, many start) }
 
--- src/lib.rt:11:1
 returns-2 : tie.Need-returns-2 Inv-up μ-up
 returns-2 c =
     let h = c .before .up .inv in

@@ -1,3 +1,4 @@
+-- `route::reconstruct_path` meets its contract.
 use Prim.Native.Nat.{ℕ, _+_, _-_, _*_, _≤_, _<_}
 use mathlib.Core.List.{List}
 use mathlib.Core.Path.{_≡_, refl, sym, _∙_, ap}
@@ -11,10 +12,6 @@ use Rattle.route.proofs.Back.{Behind, back-starts, parent-node, back-tu
 use Rattle.route.proofs.View.{nodes-many, state-in, parent-in}
 use Rattle.route.proofs.reconstruct_path.Statement.{statement}
 use Rattle.route.proofs.reconstruct_path.Tie as tie
-use Rattle.route.proofs.reconstruct_path.Reads as reads
-use Rattle.route.proofs.reconstruct_path.Lts as lts
-use Rattle.route.proofs.depth.Reads as depth-reads
-use Rattle.route.proofs.put.Reads as put-reads
 
 abbrev Inv-back : tie.InvT-back
 Inv-back az el feed parent count node route₀ n at₀ left₀ route at left =
@@ -32,11 +29,9 @@ module _ (s : tie.Start Inv-back μ-back) where
   many : length (nodes .states) ≡ s .args .count
   many = nodes-many _ _ _ _ _ (s .pre .1)
 
--- src/lib.rt:60:9
 depth-requires : tie.Need-depth-requires Inv-back μ-back
 depth-requires c κs = search needs
 
--- src/lib.rt:63:5
 back-holds : tie.Need-back-holds Inv-back μ-back
 back-holds c =
     let start = c .before .before in
@@ -44,55 +39,42 @@ back-holds c =
     let room : 3 * c .depth .result ≤ length (now (start .args .route)) = omega (arith, d .few, many start) in
     (start .pre .0, d .some, omega arith, refl, (d .is, room, back-starts _ _ _ (d .is) _ room))
 
--- src/lib.rt:64:9
 sub-left : tie.Need-sub-left Inv-back μ-back
 sub-left c = omega arith
 
--- src/lib.rt:66:17
 mul-t14 : tie.Need-mul-t14 Inv-back μ-back
 mul-t14 c = omega arith
 
--- src/lib.rt:66:17
 element-copy-out-t17 : tie.Need-element-copy-out-t17 Inv-back μ-back
 element-copy-out-t17 c = omega arith
 
--- src/lib.rt:67:17
 mul-t18 : tie.Need-mul-t18 Inv-back μ-back
 mul-t18 c = omega arith
 
--- src/lib.rt:67:17
 element-copy-out-t21 : tie.Need-element-copy-out-t21 Inv-back μ-back
 element-copy-out-t21 c = omega arith
 
--- src/lib.rt:68:19
 mul-t22 : tie.Need-mul-t22 Inv-back μ-back
 mul-t22 c = omega arith
 
--- src/lib.rt:68:19
 element-copy-out-t25 : tie.Need-element-copy-out-t25 Inv-back μ-back
 element-copy-out-t25 c = omega arith
 
--- src/lib.rt:70:20
 mul-put : tie.Need-mul-put Inv-back μ-back
 mul-put c = omega arith
 
--- src/lib.rt:70:9
 put-requires : tie.Need-put-requires Inv-back μ-back
 put-requires c κs = omega arith
 
--- src/lib.rt:71:14
 mul-at : tie.Need-mul-at Inv-back μ-back
 mul-at c = omega arith
 
--- src/lib.rt:71:14
 element-copy-out-at : tie.Need-element-copy-out-at Inv-back μ-back
 element-copy-out-at c = omega arith
 
--- src/lib.rt:63:5
 back-less : tie.Need-back-less Inv-back μ-back
 back-less c = omega arith
 
--- src/lib.rt:63:5
 back-again : tie.Need-back-again Inv-back μ-back
 back-again c =
     let put = c .before .before .before in
@@ -111,41 +93,32 @@ back-again c =
       (h .4 .0, h .4 .1, back-turn (nodes start) _ _ (h .4 .0) _ (h .4 .1) _ _ _ w _ is-s _ (turn .back-test .taken) _ is-p (put .put .ensures)),
     )
 
--- src/lib.rt:74:13
 mul-t31 : tie.Need-mul-t31 Inv-back μ-back
 mul-t31 c = omega arith
 
--- src/lib.rt:74:13
 element-copy-out-t34 : tie.Need-element-copy-out-t34 Inv-back μ-back
 element-copy-out-t34 c = omega arith
 
--- src/lib.rt:75:13
 mul-t35 : tie.Need-mul-t35 Inv-back μ-back
 mul-t35 c = omega arith
 
--- src/lib.rt:75:13
 element-copy-out-t38 : tie.Need-element-copy-out-t38 Inv-back μ-back
 element-copy-out-t38 c = omega arith
 
--- src/lib.rt:76:15
 mul-t39 : tie.Need-mul-t39 Inv-back μ-back
 mul-t39 c = omega arith
 
--- src/lib.rt:76:15
 element-copy-out-t42 : tie.Need-element-copy-out-t42 Inv-back μ-back
 element-copy-out-t42 c = omega arith
 
--- src/lib.rt:78:5
 put-requires-2 : tie.Need-put-requires-2 Inv-back μ-back
 put-requires-2 c κs = omega arith
 
--- src/lib.rt:48:1
 same-length : tie.Need-same-length Inv-back μ-back
 same-length c =
     let put = c .before .before in
     put .put2 .kept .0 ∙ put .before .before .before .before .before .before .back .inv .3
 
--- src/lib.rt:48:1
 returns : tie.Need-returns Inv-back μ-back
 returns c =
     let put = c .before .before in

@@ -1,3 +1,4 @@
+-- `rrt::run` meets its contract.
 use Prim.Native.Nat.{ℕ, _+_, _-_, _*_, _^_, _≤_, _<_}
 use mathlib.Core.Bool.{Bool, true, false}
 use mathlib.Core.List.{List, []}
@@ -26,12 +27,6 @@ use Rattle.rrt.specs.Run.{Ended, noRoute, runOf, planFrom}
 use Rattle.rrt.proofs.Runs.{turn-refused, turn-full, turn-goal, turn-added}
 use Rattle.rrt.proofs.run.Statement.{statement}
 use Rattle.rrt.proofs.run.Tie as tie
-use Rattle.rrt.proofs.run.Reads as reads
-use Rattle.rrt.proofs.run.Lts as lts
-use Rattle.columns.proofs.Columns.of.Reads as of-reads
-use Rattle.route.proofs.reconstruct_path.Reads as reconstruct-path-reads
-use Rattle.state.proofs.Goal.is_satisfied.Reads as is-satisfied-reads
-use Rattle.tree.proofs.step.Reads as step-reads
 
 abbrev Inv-samples : tie.InvT-samples
 Inv-samples max goal samples route₀ limits segment columns rows tree₀ at₀ taken₀ route tree at taken =
@@ -113,107 +108,82 @@ module _ (c : tie.After-step Inv-samples μ-samples) where
   few : length (now (args .args .samples)) < 2 ^ 64
   few = args .good .1 .1 .1 .1 .0 .0
 
--- src/lib.rt:69:19
 of-requires : tie.Need-of-requires Inv-samples μ-samples
 of-requires c κs = search needs
 
--- src/lib.rt:74:5
 samples-holds : tie.Need-samples-holds Inv-samples μ-samples
 samples-holds c =
     let s = start c in
     (omega arith, omega arith, (s .pre .0, s .pre .1), sized s, refl, refl)
 
--- src/lib.rt:74:21
 sub-samples : tie.Need-sub-samples Inv-samples μ-samples
 sub-samples c = omega arith
 
--- src/lib.rt:76:17
 mul-t20 : tie.Need-mul-t20 Inv-samples μ-samples
 mul-t20 c = omega arith
 
--- src/lib.rt:76:17
 shared-slice-read-t24 : tie.Need-shared-slice-read-t24 Inv-samples μ-samples
 shared-slice-read-t24 c = omega arith
 
--- src/lib.rt:77:25
 add-t21 : tie.Need-add-t21 Inv-samples μ-samples
 add-t21 c = omega arith
 
--- src/lib.rt:77:17
 mul-t25 : tie.Need-mul-t25 Inv-samples μ-samples
 mul-t25 c = omega arith
 
--- src/lib.rt:77:17
 shared-slice-read-t27 : tie.Need-shared-slice-read-t27 Inv-samples μ-samples
 shared-slice-read-t27 c = omega arith
 
--- src/lib.rt:78:27
 add-t28 : tie.Need-add-t28 Inv-samples μ-samples
 add-t28 c = omega arith
 
--- src/lib.rt:78:19
 mul-t29 : tie.Need-mul-t29 Inv-samples μ-samples
 mul-t29 c = omega arith
 
--- src/lib.rt:78:19
 shared-slice-read-t31 : tie.Need-shared-slice-read-t31 Inv-samples μ-samples
 shared-slice-read-t31 c = omega arith
 
--- src/lib.rt:81:13
 step-requires : tie.Need-step-requires Inv-samples μ-samples
 step-requires c κs =
     let here = c .before .before .before .before .before .before .before .before .before .before .before .samples in
     here .inv .2
 
--- src/lib.rt:94:9
 add-taken : tie.Need-add-taken Inv-samples μ-samples
 add-taken c = omega (arith, here c, few c, head c .samples .inv .1)
 
--- src/lib.rt:98:17
 mul-tree : tie.Need-mul-tree Inv-samples μ-samples
 mul-tree c = omega arith
 
--- src/lib.rt:98:17
 element-write-tree : tie.Need-element-write-tree Inv-samples μ-samples
 element-write-tree c = omega arith
 
--- src/lib.rt:99:17
 mul-tree-2 : tie.Need-mul-tree-2 Inv-samples μ-samples
 mul-tree-2 c = omega arith
 
--- src/lib.rt:99:17
 element-write-tree-2 : tie.Need-element-write-tree-2 Inv-samples μ-samples
 element-write-tree-2 c = omega arith
 
--- src/lib.rt:100:17
 mul-tree-3 : tie.Need-mul-tree-3 Inv-samples μ-samples
 mul-tree-3 c = omega arith
 
--- src/lib.rt:100:17
 element-write-tree-3 : tie.Need-element-write-tree-3 Inv-samples μ-samples
 element-write-tree-3 c = omega arith
 
--- src/lib.rt:101:17
 mul-tree-4 : tie.Need-mul-tree-4 Inv-samples μ-samples
 mul-tree-4 c = omega arith
 
--- src/lib.rt:101:17
 element-write-tree-4 : tie.Need-element-write-tree-4 Inv-samples μ-samples
 element-write-tree-4 c = omega arith
 
--- src/lib.rt:102:30
 add-tree : tie.Need-add-tree Inv-samples μ-samples
 add-tree c = omega arith
 
--- src/lib.rt:103:20
 is-satisfied-requires : tie.Need-is-satisfied-requires Inv-samples μ-samples
 is-satisfied-requires c κs = search needs
 
--- src/lib.rt:109:25
 add-reconstruct-path : tie.Need-add-reconstruct-path Inv-samples μ-samples
 add-reconstruct-path c = omega arith
 
--- src/lib.rt:104:25
 reconstruct-path-requires : tie.Need-reconstruct-path-requires Inv-samples μ-samples
 reconstruct-path-requires c κs =
     let inside = c .before .before .before .before .before .before .before .before .before in
@@ -221,14 +191,12 @@ reconstruct-path-requires c κs =
     let long = ap length (head step .samples .inv .4) in
     (omega arith, omega (arith, inside .if2 .taken), omega (arith, inside .if2 .taken, long, args step .pre .2))
 
--- src/lib.rt:113:21
 same-length : tie.Need-same-length Inv-samples μ-samples
 same-length c =
     let path = c .before .before in
     let step = path .before .before .before .before .before .before .before .before .before .before .before .before in
     path .reconstruct-path .kept .1 .1 .1 .1 .1 .1 .0 ∙ ap length (head step .samples .inv .4)
 
--- src/lib.rt:113:21
 returns : tie.Need-returns Inv-samples μ-samples
 unfolding nodesOf
 returns c =
@@ -249,13 +217,11 @@ returns c =
       room = omega (arith, inside .if2 .taken);
     }
 
--- src/lib.rt:121:17
 same-length-2 : tie.Need-same-length-2 Inv-samples μ-samples
 same-length-2 c =
     let step = c .before .before in
     ap length (head step .samples .inv .4)
 
--- src/lib.rt:121:17
 returns-2 : tie.Need-returns-2 Inv-samples μ-samples
 returns-2 c =
     let step = c .before .before in
@@ -272,15 +238,12 @@ returns-2 c =
       room = head step .samples .inv .2 .1;
     }
 
--- src/lib.rt:129:9
 add-at : tie.Need-add-at Inv-samples μ-samples
 add-at c = omega (arith, here (c .before), few (c .before))
 
--- src/lib.rt:74:5
 samples-less : tie.Need-samples-less Inv-samples μ-samples
 samples-less c = omega arith
 
--- src/lib.rt:74:5
 samples-again : tie.Need-samples-again Inv-samples μ-samples
 samples-again c =
     let step = c .before in
@@ -298,11 +261,9 @@ samples-again c =
     (λ w. subst H (sym (w .1)) (h .inv .2, h .inv .3, refused step (w .0 .left))) (c .if1 .came) in
     (here step, omega (arith, h .inv .1), r .0, r .1, h .inv .4, r .2)
 
--- src/lib.rt:63:1
 same-length-3 : tie.Need-same-length-3 Inv-samples μ-samples
 same-length-3 c = ap length (c .before .samples .inv .4)
 
--- src/lib.rt:63:1
 returns-3 : tie.Need-returns-3 Inv-samples μ-samples
 unfolding runOf
 returns-3 c =

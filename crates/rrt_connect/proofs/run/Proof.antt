@@ -1,3 +1,4 @@
+-- `rrt_connect::run` meets its contract.
 use Prim.Native.Nat.{ℕ, _+_, _-_, _^_, _≤_, _<_}
 use mathlib.Core.List.{List, []}
 use mathlib.Core.Path.{_≡_, refl, sym, _∙_, ap}
@@ -25,13 +26,6 @@ use Rattle.rrt_connect.specs.Run.{Ended, runOf}
 use Rattle.rrt_connect.proofs.Runs.{turn-on, turn-ends}
 use Rattle.rrt_connect.proofs.run.Statement.{statement}
 use Rattle.rrt_connect.proofs.run.Tie as tie
-use Rattle.rrt_connect.proofs.run.Reads as reads
-use Rattle.rrt_connect.proofs.run.Lts as lts
-use Rattle.columns.proofs.Columns.of.Reads as of-reads
-use Rattle.rrt_connect.proofs.ending.answer_of.Reads as answer-of-reads
-use Rattle.rrt_connect.proofs.ending.goes_on.Reads as goes-on-reads
-use Rattle.rrt_connect.proofs.ending.write.Reads as write-reads
-use Rattle.rrt_connect.proofs.round.round.Reads as round-reads
 
 abbrev Inv-samples : tie.InvT-samples
 Inv-samples max target samples route₀ limits segment columns rows az₀ el₀ feed₀ parent₀ n₀ goal-az₀ goal-el₀ goal-feed₀ goal-parent₀ m₀ at₀ taken₀ route az el feed parent n goal-az goal-el goal-feed goal-parent m at taken =
@@ -124,79 +118,62 @@ module _ (c : tie.After-round Inv-samples μ-samples) where
   few : length (now (args .args .samples)) < 2 ^ 64
   few = args .good .1 .1 .1 .1 .1 .0 .0
 
--- src/lib.rt:86:19
 of-requires : tie.Need-of-requires Inv-samples μ-samples
 of-requires c κs = search needs
 
--- src/lib.rt:100:5
 samples-holds : tie.Need-samples-holds Inv-samples μ-samples
 samples-holds c =
     let s = begun (c .before .before .before .before .before .before .before .before) in
     (omega arith, omega arith, (s .pre .0, s .pre .1, sized s), (s .pre .2, goal-sized s), refl, refl)
 
--- src/lib.rt:100:21
 sub-samples : tie.Need-sub-samples Inv-samples μ-samples
 sub-samples c = omega arith
 
--- src/lib.rt:102:17
 mul-t29 : tie.Need-mul-t29 Inv-samples μ-samples
 mul-t29 c = omega arith
 
--- src/lib.rt:102:17
 shared-slice-read-t33 : tie.Need-shared-slice-read-t33 Inv-samples μ-samples
 shared-slice-read-t33 c = omega arith
 
--- src/lib.rt:103:25
 add-t30 : tie.Need-add-t30 Inv-samples μ-samples
 add-t30 c = omega arith
 
--- src/lib.rt:103:17
 mul-t34 : tie.Need-mul-t34 Inv-samples μ-samples
 mul-t34 c = omega arith
 
--- src/lib.rt:103:17
 shared-slice-read-t36 : tie.Need-shared-slice-read-t36 Inv-samples μ-samples
 shared-slice-read-t36 c = omega arith
 
--- src/lib.rt:104:27
 add-t37 : tie.Need-add-t37 Inv-samples μ-samples
 add-t37 c = omega arith
 
--- src/lib.rt:104:19
 mul-t38 : tie.Need-mul-t38 Inv-samples μ-samples
 mul-t38 c = omega arith
 
--- src/lib.rt:104:19
 shared-slice-read-t40 : tie.Need-shared-slice-read-t40 Inv-samples μ-samples
 shared-slice-read-t40 c = omega arith
 
--- src/lib.rt:106:13
 round-requires : tie.Need-round-requires Inv-samples μ-samples
 round-requires c κs =
     let h = c .before .before .before .before .before .before .before .before .before .before .before .before .before .before .before .samples .inv in
     (h .2, h .3)
 
--- src/lib.rt:128:9
 add-taken : tie.Need-add-taken Inv-samples μ-samples
 add-taken c = omega (arith, here c, few c, head c .samples .inv .1)
 
--- src/lib.rt:130:12
 goes-on-requires : tie.Need-goes-on-requires Inv-samples μ-samples
 goes-on-requires c κs = search needs
 
--- src/lib.rt:131:13
 add-at : tie.Need-add-at Inv-samples μ-samples
 add-at c =
     let round = c .before .before in
     omega (arith, here round, few round)
 
--- src/lib.rt:100:5
 samples-less : tie.Need-samples-less Inv-samples μ-samples
 samples-less c =
     let round = c .before .before in
     omega (arith, here round)
 
--- src/lib.rt:100:5
 samples-again : tie.Need-samples-again Inv-samples μ-samples
 samples-again c =
     let round = c .before .before in
@@ -210,7 +187,6 @@ samples-again c =
       turn-on (plan (of round)) _ _ _ _ _ _ _ _ (here round) (h .5) (round .round .result) (startColumns round) (goalColumns round) w _ (c .before .goes-on .ensures) (c .if1 .taken),
     )
 
--- src/lib.rt:133:17
 write-requires : tie.Need-write-requires Inv-samples μ-samples
 write-requires c κs =
     let round = c .before .before .before .before .before .before .before .before .before .before .before in
@@ -218,18 +194,15 @@ write-requires c κs =
     let long = ap length (head round .samples .inv .4) in
     (w .start .some, w .start .room, w .goal .some, w .goal .room, omega (arith, long, args round .pre .3))
 
--- src/lib.rt:162:25
 answer-of-requires : tie.Need-answer-of-requires Inv-samples μ-samples
 answer-of-requires c κs = search needs
 
--- src/lib.rt:147:13
 same-length : tie.Need-same-length Inv-samples μ-samples
 same-length c =
     let wrote = c .before .before .before in
     let round = wrote .before .before .before .before .before .before .before .before .before .before .before .before in
     wrote .write .kept .1 .1 .1 .1 .1 .1 .1 .1 .1 .1 .1 .0 ∙ ap length (head round .samples .inv .4)
 
--- src/lib.rt:147:13
 returns : tie.Need-returns Inv-samples μ-samples
 unfolding treesAt nodesOf
 returns c =
@@ -253,11 +226,9 @@ returns c =
       room = (w .start .room, w .goal .room);
     }
 
--- src/lib.rt:72:1
 same-length-2 : tie.Need-same-length-2 Inv-samples μ-samples
 same-length-2 c = ap length (c .before .samples .inv .4)
 
--- src/lib.rt:72:1
 returns-2 : tie.Need-returns-2 Inv-samples μ-samples
 unfolding runOf treesAt nodesOf
 returns-2 c =

@@ -1,22 +1,17 @@
+-- `rrt_connect::usable` meets its contract.
 use Rattle.rrt_connect.proofs.Views.{usable-yes, usable-many, usable-empty, usable-no}
 use Rattle.rrt_connect.proofs.usable.Statement.{statement}
 use Rattle.rrt_connect.proofs.usable.Tie as tie
-use Rattle.rrt_connect.proofs.usable.Reads as reads
-use Rattle.rrt_connect.proofs.usable.Lts as lts
 
--- src/lib.rt:64:17
 returns : tie.Need-returns
 returns c = usable-yes _ _ _ (c .before .before .if1 .taken) (c .before .if2 .taken) (c .if3 .taken)
 
--- src/lib.rt:58:1
 returns-2 : tie.Need-returns-2
 returns-2 c = usable-many _ _ _ (c .before .before .if1 .taken) (c .before .if2 .taken) (c .if3 .left)
 
--- src/lib.rt:58:1
 returns-3 : tie.Need-returns-3
 returns-3 c = usable-empty _ _ _ (c .before .if1 .taken) (c .if2 .left)
 
--- src/lib.rt:58:1
 returns-4 : tie.Need-returns-4
 returns-4 c = usable-no _ _ _ (c .if1 .left)
 

@@ -1,3 +1,4 @@
+-- `samples::are_good` meets its contract.
 use Prim.Native.Nat.{_≤_, _-_}
 use mathlib.Core.Path.{_≡_, refl, sym, _∙_}
 use native.Mathlib.Omega.{arith}
@@ -7,9 +8,6 @@ use Rattle.samples.specs.Samples.{allCoordinates}
 use Rattle.samples.proofs.Checked.{number-good, number-bad, numbers-done, list-over, list-is}
 use Rattle.samples.proofs.are_good.Statement.{statement}
 use Rattle.samples.proofs.are_good.Tie as tie
-use Rattle.samples.proofs.are_good.Reads as reads
-use Rattle.samples.proofs.are_good.Lts as lts
-use Rattle.state.proofs.State.is_coordinate.Reads as is-coordinate-reads
 
 abbrev Inv-numbers : tie.InvT-numbers
 Inv-numbers list over i₀ i = (i ≤ length list) × (allCoordinates list ≡ allCoordinates (drop i list))
@@ -17,41 +15,32 @@ Inv-numbers list over i₀ i = (i ≤ length list) × (allCoordinates list ≡ a
 abbrev μ-numbers : tie.MeasureT-numbers
 μ-numbers list over i₀ i = length list - i
 
--- src/lib.rt:12:9
 returns : tie.Need-returns Inv-numbers μ-numbers
 returns c = list-over _ (c .if1 .taken)
 
--- src/lib.rt:15:5
 numbers-holds : tie.Need-numbers-holds Inv-numbers μ-numbers
 numbers-holds c = (omega arith, refl)
 
--- src/lib.rt:16:33
 mul-is-coordinate : tie.Need-mul-is-coordinate Inv-numbers μ-numbers
 mul-is-coordinate c = omega arith
 
--- src/lib.rt:16:33
 shared-slice-read-is-coordinate : tie.Need-shared-slice-read-is-coordinate Inv-numbers μ-numbers
 shared-slice-read-is-coordinate c = omega arith
 
--- src/lib.rt:16:12
 is-coordinate-requires : tie.Need-is-coordinate-requires Inv-numbers μ-numbers
 is-coordinate-requires c κs = search needs
 
--- src/lib.rt:17:13
 add-i : tie.Need-add-i Inv-numbers μ-numbers
 add-i c = omega arith
 
--- src/lib.rt:15:5
 numbers-less : tie.Need-numbers-less Inv-numbers μ-numbers
 numbers-less c = omega arith
 
--- src/lib.rt:15:5
 numbers-again : tie.Need-numbers-again Inv-numbers μ-numbers
 numbers-again c =
     let turn = c .before .before .before in
     (omega arith, number-good _ _ (turn .before .numbers .inv .1) (turn .numbers-test .taken) (sym (c .before .is-coordinate .ensures) ∙ c .if2 .taken))
 
--- src/lib.rt:19:13
 returns-2 : tie.Need-returns-2 Inv-numbers μ-numbers
 returns-2 c =
     let turn = c .before .before .before in
@@ -59,7 +48,6 @@ returns-2 c =
     (list-is _ (turn .before .before .if1 .left)
     ∙ number-bad _ _ (turn .before .numbers .inv .1) (turn .numbers-test .taken) (sym (c .before .is-coordinate .ensures) ∙ c .if2 .left))
 
--- src/lib.rt:7:1
 returns-3 : tie.Need-returns-3 Inv-numbers μ-numbers
 returns-3 c = sym (list-is _ (c .before .before .if1 .left) ∙ numbers-done _ _ (c .before .numbers .inv .1) (c .numbers-test .left))
 

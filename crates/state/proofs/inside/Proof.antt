@@ -1,17 +1,14 @@
+-- `state::inside` meets its contract.
 use borrow.Author.Needs.{needs}
 use Rattle.laws.specs.Cases.{cases}
 use Rattle.state.specs.Ranges.{insideOf}
 use Rattle.state.proofs.inside.Statement.{statement}
 use Rattle.state.proofs.inside.Tie as tie
-use Rattle.state.proofs.inside.Reads as reads
-use Rattle.state.proofs.inside.Lts as lts
 
--- src/lib.rt:25:1
 returns : tie.Need-returns
 unfolding insideOf
 returns c = search (cases, needs)
 
--- src/lib.rt:25:1
 returns-2 : tie.Need-returns-2
 unfolding insideOf
 returns-2 c = search (cases, needs)

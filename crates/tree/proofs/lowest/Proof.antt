@@ -1,101 +1,75 @@
+-- `tree::lowest` meets its contract.
 use Rattle.tree.proofs.Blocks.{eight-calls}
 use borrow.Author.Needs.{needs}
 use Rattle.tree.proofs.lowest.Statement.{statement}
 use Rattle.tree.proofs.lowest.Tie as tie
-use Rattle.tree.proofs.lowest.Reads as reads
-use Rattle.tree.proofs.lowest.Lts as lts
-use Rattle.tree.proofs.at.Reads as at-reads
-use Rattle.tree.proofs.less.Reads as less-reads
 
--- src/lib.rt:86:9
 at-requires : tie.Need-at-requires
 at-requires c κs = search needs
 
--- src/lib.rt:87:30
 add-at : tie.Need-add-at
 add-at c = search needs
 
--- src/lib.rt:87:9
 at-requires-2 : tie.Need-at-requires-2
 at-requires-2 c κs = search needs
 
--- src/lib.rt:88:30
 add-at-2 : tie.Need-add-at-2
 add-at-2 c = search needs
 
--- src/lib.rt:88:9
 at-requires-3 : tie.Need-at-requires-3
 at-requires-3 c κs = search needs
 
--- src/lib.rt:89:30
 add-at-3 : tie.Need-add-at-3
 add-at-3 c = search needs
 
--- src/lib.rt:89:9
 at-requires-4 : tie.Need-at-requires-4
 at-requires-4 c κs = search needs
 
--- src/lib.rt:90:30
 add-at-4 : tie.Need-add-at-4
 add-at-4 c = search needs
 
--- src/lib.rt:90:9
 at-requires-5 : tie.Need-at-requires-5
 at-requires-5 c κs = search needs
 
--- src/lib.rt:91:30
 add-at-5 : tie.Need-add-at-5
 add-at-5 c = search needs
 
--- src/lib.rt:91:9
 at-requires-6 : tie.Need-at-requires-6
 at-requires-6 c κs = search needs
 
--- src/lib.rt:92:30
 add-at-6 : tie.Need-add-at-6
 add-at-6 c = search needs
 
--- src/lib.rt:92:9
 at-requires-7 : tie.Need-at-requires-7
 at-requires-7 c κs = search needs
 
--- src/lib.rt:93:30
 add-at-7 : tie.Need-add-at-7
 add-at-7 c = search needs
 
--- src/lib.rt:93:9
 at-requires-8 : tie.Need-at-requires-8
 at-requires-8 c κs = search needs
 
--- src/lib.rt:94:15
 less-requires : tie.Need-less-requires
 less-requires c κs = search needs
 
--- src/lib.rt:94:27
 less-requires-2 : tie.Need-less-requires-2
 less-requires-2 c κs = search needs
 
--- src/lib.rt:94:10
 less-requires-3 : tie.Need-less-requires-3
 less-requires-3 c κs = search needs
 
--- src/lib.rt:94:45
 less-requires-4 : tie.Need-less-requires-4
 less-requires-4 c κs = search needs
 
--- src/lib.rt:94:57
 less-requires-5 : tie.Need-less-requires-5
 less-requires-5 c κs = search needs
 
--- src/lib.rt:94:40
 less-requires-6 : tie.Need-less-requires-6
 less-requires-6 c κs = search needs
 
--- src/lib.rt:94:5
 less-requires-7 : tie.Need-less-requires-7
 less-requires-7 c κs = search needs
 
--- src/lib.rt:82:1
 returns : tie.Need-returns
 returns c =
     eight-calls _ _ _ _ _ _ _ _ _ _ _ _ _

@@ -1,3 +1,4 @@
+-- `tree::nearest` meets its contract.
 use mathlib.Core.Logic.{⊎-elim}
 use mathlib.Core.Path.{_≡_, refl, sym, _∙_, ap}
 use native.Mathlib.Omega.{arith}
@@ -11,10 +12,6 @@ use Rattle.tree.proofs.Nearer.{next, last, nowhere, took, kept}
 use Rattle.tree.proofs.Blocks.{Held, held-first, held-kept, held-won, held-as, held-on, held-here, searchAt}
 use Rattle.tree.proofs.nearest.Statement.{statement}
 use Rattle.tree.proofs.nearest.Tie as tie
-use Rattle.tree.proofs.nearest.Reads as reads
-use Rattle.tree.proofs.nearest.Lts as lts
-use Rattle.tree.proofs.at.Reads as at-reads
-use Rattle.tree.proofs.lowest.Reads as lowest-reads
 
 abbrev Inv-eights : tie.InvT-eights
 Inv-eights az el feed n s count block₀ least₀ i₀ block least i =
@@ -37,38 +34,30 @@ Inv-nodes az el feed n s count block least i₀ best₀ far₀ i best far =
 abbrev μ-nodes : tie.MeasureT-nodes
 μ-nodes az el feed n s count block least i₀ best₀ far₀ i best far = count - i
 
--- src/lib.rt:103:9
 returns : tie.Need-returns Inv-eights μ-eights Inv-first μ-first Inv-nodes μ-nodes
 unfolding nearestOf
 returns c = sym (nowhere _ _ _ _ 0 _ (c .if1 .taken))
 
--- src/lib.rt:107:9
 at-requires : tie.Need-at-requires Inv-eights μ-eights Inv-first μ-first Inv-nodes μ-nodes
 at-requires c κs = omega arith
 
--- src/lib.rt:109:5
 eights-holds : tie.Need-eights-holds Inv-eights μ-eights Inv-first μ-first Inv-nodes μ-nodes
 eights-holds c =
     let e : c .before .if2 .count ≡ min (c .before .before .before .args .n) 512 = ⊎-elim (λ w. omega arith) (λ w. omega arith) (c .before .if2 .came) in
     (omega arith, e, held-first _ _ _ _ _ _ _ e (omega arith) (c .at .ensures))
 
--- src/lib.rt:109:20
 sub-eights : tie.Need-sub-eights Inv-eights μ-eights Inv-first μ-first Inv-nodes μ-nodes
 sub-eights c = omega arith
 
--- src/lib.rt:110:13
 lowest-requires : tie.Need-lowest-requires Inv-eights μ-eights Inv-first μ-first Inv-nodes μ-nodes
 lowest-requires c κs = omega arith
 
--- src/lib.rt:115:9
 add-i : tie.Need-add-i Inv-eights μ-eights Inv-first μ-first Inv-nodes μ-nodes
 add-i c = omega arith
 
--- src/lib.rt:109:5
 eights-less : tie.Need-eights-less Inv-eights μ-eights Inv-first μ-first Inv-nodes μ-nodes
 eights-less c = omega arith
 
--- src/lib.rt:109:5
 eights-again : tie.Need-eights-again Inv-eights μ-eights Inv-first μ-first Inv-nodes μ-nodes
 eights-again c =
     let h = c .before .before .before .eights in
@@ -80,47 +69,36 @@ eights-again c =
           (λ w. held-as _ _ _ _ _ _ _ _ _ (held-kept _ _ _ _ _ _ _ _ _ (h .inv .2) _ low room (w .0 .left)) _ _ (w .1) (w .2)) (c .if3 .came),
     )
 
--- src/lib.rt:118:9
 at-requires-2 : tie.Need-at-requires-2 Inv-eights μ-eights Inv-first μ-first Inv-nodes μ-nodes
 at-requires-2 c κs = let w = c .before .eights .inv .2 in omega (arith, w .from, w .to)
 
--- src/lib.rt:119:5
 first-holds : tie.Need-first-holds Inv-eights μ-eights Inv-first μ-first Inv-nodes μ-nodes
 first-holds c = let h = c .before .before .eights .inv in (h .0, h .1, c .at2 .ensures, h .2)
 
--- src/lib.rt:120:9
 add-best : tie.Need-add-best Inv-eights μ-eights Inv-first μ-first Inv-nodes μ-nodes
 add-best c = let w = c .before .first .inv .3 in omega (arith, w .from, w .to)
 
--- src/lib.rt:121:9
 at-requires-3 : tie.Need-at-requires-3 Inv-eights μ-eights Inv-first μ-first Inv-nodes μ-nodes
 at-requires-3 c κs = let h = c .before .first .inv in let w = held-on _ _ _ _ _ _ _ _ _ (h .3) _ (h .2) (c .first-test .taken) in omega (arith, w .from, w .to)
 
--- src/lib.rt:119:5
 first-less : tie.Need-first-less Inv-eights μ-eights Inv-first μ-first Inv-nodes μ-nodes
 first-less c = let w = c .before .before .first .inv .3 in omega (arith, w .from, w .to)
 
--- src/lib.rt:119:5
 first-again : tie.Need-first-again Inv-eights μ-eights Inv-first μ-first Inv-nodes μ-nodes
 first-again c = let h = c .before .before .first .inv in (h .0, h .1, c .at3 .ensures, held-on _ _ _ _ _ _ _ _ _ (h .3) _ (h .2) (c .before .first-test .taken))
 
--- src/lib.rt:123:5
 nodes-holds : tie.Need-nodes-holds Inv-eights μ-eights Inv-first μ-first Inv-nodes μ-nodes
 nodes-holds c = let h = c .before .first .inv in (h .0, omega arith, held-here _ _ _ _ _ _ _ _ _ (h .3) _ (h .2) (c .first-test .left))
 
--- src/lib.rt:124:13
 at-requires-4 : tie.Need-at-requires-4 Inv-eights μ-eights Inv-first μ-first Inv-nodes μ-nodes
 at-requires-4 c κs = omega arith
 
--- src/lib.rt:129:9
 add-i-2 : tie.Need-add-i-2 Inv-eights μ-eights Inv-first μ-first Inv-nodes μ-nodes
 add-i-2 c = omega arith
 
--- src/lib.rt:123:5
 nodes-less : tie.Need-nodes-less Inv-eights μ-eights Inv-first μ-first Inv-nodes μ-nodes
 nodes-less c = omega arith
 
--- src/lib.rt:123:5
 nodes-again : tie.Need-nodes-again Inv-eights μ-eights Inv-first μ-first Inv-nodes μ-nodes
 nodes-again c =
     let h = c .before .before .before .nodes in (
@@ -131,7 +109,6 @@ nodes-again c =
           (⊎-elim (λ w. took _ _ _ _ (c .before .at4 .ensures) _ _ (w .0 .taken) (w .1) (w .2)) (λ w. kept _ _ _ _ (c .before .at4 .ensures) _ _ (w .0 .left) (w .1) (w .2)) (c .if4 .came)),
     )
 
--- src/lib.rt:99:1
 returns-2 : tie.Need-returns-2 Inv-eights μ-eights Inv-first μ-first Inv-nodes μ-nodes
 returns-2 c = sym (c .before .nodes .inv .2 ∙ last _ _ _ _ _ _ _ (c .nodes-test .left))
 

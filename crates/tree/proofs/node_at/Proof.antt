@@ -1,3 +1,4 @@
+-- `tree::node_at` meets its contract.
 use Prim.Native.Nat.{_<_, min}
 use mathlib.Core.Logic.{⊎-elim}
 use mathlib.Core.Path.{_≡_}
@@ -5,10 +6,7 @@ use native.Mathlib.Omega.{arith}
 use Rattle.tree.proofs.Nodes.{at-none, at-child, at-root}
 use Rattle.tree.proofs.node_at.Statement.{statement}
 use Rattle.tree.proofs.node_at.Tie as tie
-use Rattle.tree.proofs.node_at.Reads as reads
-use Rattle.tree.proofs.node_at.Lts as lts
 
--- src/lib.rt:196:17
 -- the code's smaller of n and 512
 most : (c : tie.Joined1) → c .if1 .count ≡ min (c .before .args .n) 512
 most c = ⊎-elim (λ w. omega arith) (λ w. omega arith) (c .if1 .came)
@@ -16,47 +14,37 @@ most c = ⊎-elim (λ w. omega arith) (λ w. omega arith) (c .if1 .came)
 mul-t12 : tie.Need-mul-t12
 mul-t12 c = omega (arith, most (c .before))
 
--- src/lib.rt:196:17
 element-copy-out-t15 : tie.Need-element-copy-out-t15
 element-copy-out-t15 c = omega (arith, most (c .before))
 
--- src/lib.rt:197:17
 mul-t16 : tie.Need-mul-t16
 mul-t16 c = omega (arith, most (c .before .before))
 
--- src/lib.rt:197:17
 element-copy-out-t19 : tie.Need-element-copy-out-t19
 element-copy-out-t19 c = omega (arith, most (c .before .before))
 
--- src/lib.rt:198:19
 mul-t20 : tie.Need-mul-t20
 mul-t20 c = omega (arith, most (c .before .before .before))
 
--- src/lib.rt:198:19
 element-copy-out-t23 : tie.Need-element-copy-out-t23
 element-copy-out-t23 c = omega (arith, most (c .before .before .before))
 
--- src/lib.rt:200:17
 mul-p : tie.Need-mul-p
 mul-p c = omega (arith, most (c .before .before .before .before))
 
--- src/lib.rt:200:17
 element-copy-out-p : tie.Need-element-copy-out-p
 element-copy-out-p c = omega (arith, most (c .before .before .before .before))
 
--- src/lib.rt:202:13
 returns : tie.Need-returns
 returns c =
     let inside = c .before .before .before .before .before in
     at-child _ _ _ _ _ _ _ (most (inside .before)) (inside .if2 .taken) (c .if3 .taken)
 
--- src/lib.rt:204:9
 returns-2 : tie.Need-returns-2
 returns-2 c =
     let inside = c .before .before .before .before .before in
     at-root _ _ _ _ _ _ _ (most (inside .before)) (inside .if2 .taken) (c .if3 .left)
 
--- src/lib.rt:183:1
 returns-3 : tie.Need-returns-3
 returns-3 c = at-none _ _ _ _ _ _ _ (most (c .before)) (c .if2 .left)
 

@@ -1,20 +1,14 @@
+-- `tree::step` meets its contract.
 use Prim.Native.Nat.{_<_}
 use native.Mathlib.Omega.{arith}
 use Rattle.tree.proofs.Steps.{below, step-is}
 use borrow.Author.Needs.{needs}
 use Rattle.tree.proofs.step.Statement.{statement}
 use Rattle.tree.proofs.step.Tie as tie
-use Rattle.tree.proofs.step.Reads as reads
-use Rattle.tree.proofs.step.Lts as lts
-use Rattle.motion.proofs.accepts.Reads as accepts-reads
-use Rattle.state.proofs.State.steer_by.Reads as steer-by-reads
-use Rattle.tree.proofs.nearest.Reads as nearest-reads
 
--- src/lib.rt:158:9
 nearest-requires : tie.Need-nearest-requires
 nearest-requires c κs = search needs
 
--- src/lib.rt:161:13
 -- the nearest node stands in the columns
 low : (c : tie.After-nearest) → c .nearest .result .index < 512
 low c =
@@ -24,35 +18,27 @@ low c =
 mul-t17 : tie.Need-mul-t17
 mul-t17 c = omega (arith, low c)
 
--- src/lib.rt:161:13
 element-copy-out-t20 : tie.Need-element-copy-out-t20
 element-copy-out-t20 c = omega (arith, low c)
 
--- src/lib.rt:162:13
 mul-t21 : tie.Need-mul-t21
 mul-t21 c = omega (arith, low (c .before))
 
--- src/lib.rt:162:13
 element-copy-out-t24 : tie.Need-element-copy-out-t24
 element-copy-out-t24 c = omega (arith, low (c .before))
 
--- src/lib.rt:163:15
 mul-t25 : tie.Need-mul-t25
 mul-t25 c = omega (arith, low (c .before .before))
 
--- src/lib.rt:163:15
 element-copy-out-t28 : tie.Need-element-copy-out-t28
 element-copy-out-t28 c = omega (arith, low (c .before .before))
 
--- src/lib.rt:165:9
 steer-by-requires : tie.Need-steer-by-requires
 steer-by-requires c κs = search needs
 
--- src/lib.rt:166:9
 accepts-requires : tie.Need-accepts-requires
 accepts-requires c κs = search needs
 
--- src/lib.rt:142:1
 returns : tie.Need-returns
 returns c =
     let start = c .before .before .before .before .before .before .before in

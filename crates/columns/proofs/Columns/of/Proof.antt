@@ -1,3 +1,4 @@
+-- `columns::Columns::of` meets its contract.
 use Prim.Native.Nat.{ℕ, _≤_, _<_, _-_, _+_, _*_, min}
 use mathlib.Core.Logic.{⊎-elim}
 use mathlib.Core.Path.{_≡_, refl, _∙_}
@@ -12,9 +13,6 @@ use Rattle.columns.proofs.Rows.{six-length}
 use Rattle.columns.proofs.Spread.{Rowed, rowed-more, spread-is}
 use Rattle.columns.proofs.Columns.of.Statement.{statement}
 use Rattle.columns.proofs.Columns.of.Tie as tie
-use Rattle.columns.proofs.Columns.of.Reads as reads
-use Rattle.columns.proofs.Columns.of.Lts as lts
-use Rattle.columns.proofs.flattened.Reads as flattened-reads
 
 -- what would stand past the table's end
 abbrev none : Slot
@@ -31,7 +29,6 @@ abbrev μ-rows : tie.MeasureT-rows
 sized : (c : tie.Start Inv-rows μ-rows) → length (c .args .t1 .slots) ≡ 32
 sized c = search (mapped, needs)
 
--- src/lib.rt:101:9
 rows-holds : tie.Need-rows-holds Inv-rows μ-rows
 rows-holds c =
     let e : c .if1 .n ≡ min (c .before .args .t1 .count) 32 = ⊎-elim (λ w. omega arith) (λ w. omega arith) (c .if1 .came) in
@@ -40,103 +37,78 @@ rows-holds c =
     nothing : (i : ℕ) → i < 0 → ⊥
     nothing i h = omega arith
 
--- src/lib.rt:102:24
 mul-slot : tie.Need-mul-slot Inv-rows μ-rows
 mul-slot c = omega arith
 
--- src/lib.rt:102:24
 element-copy-out-slot : tie.Need-element-copy-out-slot Inv-rows μ-rows
 element-copy-out-slot c = omega arith
 
--- src/lib.rt:104:17
 flattened-requires : tie.Need-flattened-requires Inv-rows μ-rows
 flattened-requires c κs = search needs
 
--- src/lib.rt:105:22
 mul-at : tie.Need-mul-at Inv-rows μ-rows
 mul-at c = omega arith
 
--- src/lib.rt:106:13
 array-write-kinds : tie.Need-array-write-kinds Inv-rows μ-rows
 array-write-kinds c = omega arith
 
--- src/lib.rt:107:13
 mul-numbers : tie.Need-mul-numbers Inv-rows μ-rows
 mul-numbers c = omega arith
 
--- src/lib.rt:107:13
 array-write-numbers : tie.Need-array-write-numbers Inv-rows μ-rows
 array-write-numbers c = omega arith
 
--- src/lib.rt:108:21
 add-numbers : tie.Need-add-numbers Inv-rows μ-rows
 add-numbers c = omega arith
 
--- src/lib.rt:108:13
 mul-numbers-2 : tie.Need-mul-numbers-2 Inv-rows μ-rows
 mul-numbers-2 c = omega arith
 
--- src/lib.rt:108:13
 array-write-numbers-2 : tie.Need-array-write-numbers-2 Inv-rows μ-rows
 array-write-numbers-2 c = omega arith
 
--- src/lib.rt:109:21
 add-numbers-2 : tie.Need-add-numbers-2 Inv-rows μ-rows
 add-numbers-2 c = omega arith
 
--- src/lib.rt:109:13
 mul-numbers-3 : tie.Need-mul-numbers-3 Inv-rows μ-rows
 mul-numbers-3 c = omega arith
 
--- src/lib.rt:109:13
 array-write-numbers-3 : tie.Need-array-write-numbers-3 Inv-rows μ-rows
 array-write-numbers-3 c = omega arith
 
--- src/lib.rt:110:21
 add-numbers-3 : tie.Need-add-numbers-3 Inv-rows μ-rows
 add-numbers-3 c = omega arith
 
--- src/lib.rt:110:13
 mul-numbers-4 : tie.Need-mul-numbers-4 Inv-rows μ-rows
 mul-numbers-4 c = omega arith
 
--- src/lib.rt:110:13
 array-write-numbers-4 : tie.Need-array-write-numbers-4 Inv-rows μ-rows
 array-write-numbers-4 c = omega arith
 
--- src/lib.rt:111:21
 add-numbers-4 : tie.Need-add-numbers-4 Inv-rows μ-rows
 add-numbers-4 c = omega arith
 
--- src/lib.rt:111:13
 mul-numbers-5 : tie.Need-mul-numbers-5 Inv-rows μ-rows
 mul-numbers-5 c = omega arith
 
--- src/lib.rt:111:13
 array-write-numbers-5 : tie.Need-array-write-numbers-5 Inv-rows μ-rows
 array-write-numbers-5 c = omega arith
 
--- src/lib.rt:112:21
 add-numbers-5 : tie.Need-add-numbers-5 Inv-rows μ-rows
 add-numbers-5 c = omega arith
 
--- src/lib.rt:112:13
 mul-numbers-6 : tie.Need-mul-numbers-6 Inv-rows μ-rows
 mul-numbers-6 c = omega arith
 
--- src/lib.rt:112:13
 array-write-numbers-6 : tie.Need-array-write-numbers-6 Inv-rows μ-rows
 array-write-numbers-6 c = omega arith
 
--- src/lib.rt:113:13
 add-j : tie.Need-add-j Inv-rows μ-rows
 add-j c = omega arith
 
--- src/lib.rt:101:9
 rows-less : tie.Need-rows-less Inv-rows μ-rows
 rows-less c = omega arith
 
--- src/lib.rt:101:9
 rows-again : tie.Need-rows-again Inv-rows μ-rows
 rows-again c =
     let turn = c .before .before in
@@ -150,7 +122,6 @@ rows-again c =
       rowed-more (here .kinds) (here .numbers) (start .args .t1 .slots) none (here .j) (c .flattened .result) _ (c .flattened .ensures) (h .2 .0) (h .2 .1) (sized start) small (h .3),
     )
 
--- src/lib.rt:93:5
 returns : tie.Need-returns Inv-rows μ-rows
 returns c =
     let h = c .before .rows .inv in

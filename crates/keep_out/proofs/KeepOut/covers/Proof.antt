@@ -1,38 +1,29 @@
+-- `keep_out::KeepOut::covers` meets its contract.
 use Rattle.keep_out.specs.Covers.{coversOf}
 use borrow.Author.Needs.{needs}
 use Rattle.keep_out.proofs.KeepOut.covers.Statement.{statement}
 use Rattle.keep_out.proofs.KeepOut.covers.Tie as tie
-use Rattle.keep_out.proofs.KeepOut.covers.Reads as reads
-use Rattle.keep_out.proofs.KeepOut.covers.Lts as lts
-use Rattle.state.proofs.State.within.Reads as within-reads
 
--- src/lib.rt:77:28
 enum-known-self : tie.Need-enum-known-self
 enum-known-self c = search needs
 
--- src/lib.rt:77:43
 within-requires : tie.Need-within-requires
 within-requires c κs = search needs
 
--- src/lib.rt:78:29
 enum-known-self-2 : tie.Need-enum-known-self-2
 enum-known-self-2 c = search needs
 
--- src/lib.rt:83:28
 enum-known-self-3 : tie.Need-enum-known-self-3
 enum-known-self-3 c = search needs
 
--- src/lib.rt:73:5
 returns : tie.Need-returns
 unfolding coversOf
 returns c = rw (c .before .before .self .given .1) (c .within .ensures)
 
--- src/lib.rt:73:5
 returns-2 : tie.Need-returns-2
 unfolding coversOf
 returns-2 c = cc
 
--- src/lib.rt:73:5
 returns-3 : tie.Need-returns-3
 unfolding coversOf
 returns-3 c = cc

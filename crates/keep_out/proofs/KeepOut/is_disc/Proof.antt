@@ -1,36 +1,27 @@
+-- `keep_out::KeepOut::is_disc` meets its contract.
 use Rattle.laws.specs.Cases.{cases}
 use Rattle.keep_out.specs.Good.{goodDisc}
 use borrow.Author.Needs.{needs}
 use Rattle.keep_out.proofs.KeepOut.is_disc.Statement.{statement}
 use Rattle.keep_out.proofs.KeepOut.is_disc.Tie as tie
-use Rattle.keep_out.proofs.KeepOut.is_disc.Reads as reads
-use Rattle.keep_out.proofs.KeepOut.is_disc.Lts as lts
-use Rattle.state.proofs.State.is_coordinate.Reads as is-coordinate-reads
-use Rattle.state.proofs.inside.Reads as inside-reads
 
--- src/lib.rt:59:12
 is-coordinate-requires : tie.Need-is-coordinate-requires
 is-coordinate-requires c κs = search needs
 
--- src/lib.rt:60:16
 is-coordinate-requires-2 : tie.Need-is-coordinate-requires-2
 is-coordinate-requires-2 c κs = search needs
 
--- src/lib.rt:61:17
 inside-requires : tie.Need-inside-requires
 inside-requires c κs = search needs
 
--- src/lib.rt:61:17
 returns : tie.Need-returns
 unfolding goodDisc
 returns c = search (cases, needs)
 
--- src/lib.rt:56:5
 returns-2 : tie.Need-returns-2
 unfolding goodDisc
 returns-2 c = search (cases, needs)
 
--- src/lib.rt:56:5
 returns-3 : tie.Need-returns-3
 unfolding goodDisc
 returns-3 c = search (cases, needs)

@@ -1,3 +1,4 @@
+-- `keep_out::KeepOuts::covers` meets its contract.
 use Prim.Native.Nat.{ℕ, _≤_, _-_, _+_, min}
 use mathlib.Core.Bool.{Bool, true, false}
 use mathlib.Core.List.{List, [], _∷_, map}
@@ -13,9 +14,6 @@ use Rattle.keep_out.specs.Table.{heldOf, keepOutsOf}
 use Rattle.keep_out.specs.declared.Slot.{Slot}
 use Rattle.keep_out.proofs.KeepOuts.covers.Statement.{statement}
 use Rattle.keep_out.proofs.KeepOuts.covers.Tie as tie
-use Rattle.keep_out.proofs.KeepOuts.covers.Reads as reads
-use Rattle.keep_out.proofs.KeepOuts.covers.Lts as lts
-use Rattle.keep_out.proofs.KeepOut.covers.Reads as covers-reads
 
 abbrev Inv-slots : tie.InvT-slots
 Inv-slots s self count n i₀ i =
@@ -40,25 +38,20 @@ more c d =
     left-more (λ (l : List Slot). coveredOf (map heldOf l) (start .args .s)) (c .before .before .if1 .n) (start .args .t1 .slots) (c .before .slots .i) d
     (c .slots-test .taken) (omega (arith, sized start)) (c .before .slots .inv .3)
 
--- src/lib.rt:161:9
 slots-holds : tie.Need-slots-holds Inv-slots μ-slots
 slots-holds c = let start = c .before in
     let e : c .if1 .n ≡ min (start .args .t1 .count) 32 = ⊎-elim (λ w. omega arith) (λ w. omega arith) (c .if1 .came) in
     (omega arith, omega arith, take-most _ 32 _ _ (sized start) e, refl)
 
--- src/lib.rt:162:24
 mul-slot : tie.Need-mul-slot Inv-slots μ-slots
 mul-slot c = omega arith
 
--- src/lib.rt:162:24
 element-copy-out-slot : tie.Need-element-copy-out-slot Inv-slots μ-slots
 element-copy-out-slot c = omega arith
 
--- src/lib.rt:164:16
 covers-requires : tie.Need-covers-requires Inv-slots μ-slots
 covers-requires c κs = search needs
 
--- src/lib.rt:165:17
 returns : tie.Need-returns Inv-slots μ-slots
 unfolding coveredOf keepOutsOf
 returns c =
@@ -68,15 +61,12 @@ returns c =
     (ap (λ (l : List Slot). coveredOf (map heldOf l) (start .args .s)) (turn .before .slots .inv .2)
     ∙ more turn _ ∙ or-left _ _ (sym (c .before .covers .ensures) ∙ c .if2 .taken))
 
--- src/lib.rt:167:13
 add-i : tie.Need-add-i Inv-slots μ-slots
 add-i c = omega arith
 
--- src/lib.rt:161:9
 slots-less : tie.Need-slots-less Inv-slots μ-slots
 slots-less c = omega arith
 
--- src/lib.rt:161:9
 slots-again : tie.Need-slots-again Inv-slots μ-slots
 unfolding coveredOf
 slots-again c =
@@ -84,7 +74,6 @@ slots-again c =
     let h = turn .before .slots .inv in
     (omega arith, h .1, h .2, more turn _ ∙ or-right _ _ (sym (c .before .covers .ensures) ∙ c .if2 .left))
 
--- src/lib.rt:155:5
 returns-2 : tie.Need-returns-2 Inv-slots μ-slots
 unfolding coveredOf keepOutsOf
 returns-2 c =

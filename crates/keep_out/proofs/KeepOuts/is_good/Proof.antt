@@ -1,3 +1,4 @@
+-- `keep_out::KeepOuts::is_good` meets its contract.
 use borrow.Author.Tests.{le-leb, lt-leb}
 use Prim.Native.Nat.{ℕ, _≤_, _-_, _+_, min}
 use mathlib.Core.Bool.{Bool, true, false}
@@ -14,9 +15,6 @@ use Rattle.keep_out.specs.Table.{heldOf, keepOutsOf}
 use Rattle.keep_out.specs.declared.Slot.{Slot}
 use Rattle.keep_out.proofs.KeepOuts.is_good.Statement.{statement}
 use Rattle.keep_out.proofs.KeepOuts.is_good.Tie as tie
-use Rattle.keep_out.proofs.KeepOuts.is_good.Reads as reads
-use Rattle.keep_out.proofs.KeepOuts.is_good.Lts as lts
-use Rattle.keep_out.proofs.KeepOut.is_good.Reads as is-good-reads
 
 abbrev Inv-slots : tie.InvT-slots
 Inv-slots self n i₀ i = (i ≤ n) × Left (λ (l : List Slot). allGood (map heldOf l)) n (self .slots) i
@@ -39,41 +37,32 @@ more c d =
     left-more (λ (l : List Slot). allGood (map heldOf l)) (start .args .t1 .count) (start .args .t1 .slots) (c .before .slots .i) d
     (c .slots-test .taken) (omega (arith, sized start)) (c .before .slots .inv .1)
 
--- src/lib.rt:139:13
 returns : tie.Need-returns Inv-slots μ-slots
 unfolding goodTable
 returns c = simp (lt-leb _ _ (c .if1 .taken))
 
--- src/lib.rt:142:9
 slots-holds : tie.Need-slots-holds Inv-slots μ-slots
 slots-holds c = (omega arith, refl)
 
--- src/lib.rt:143:24
 mul-slot : tie.Need-mul-slot Inv-slots μ-slots
 mul-slot c = omega arith
 
--- src/lib.rt:143:24
 element-copy-out-slot : tie.Need-element-copy-out-slot Inv-slots μ-slots
 element-copy-out-slot c = omega arith
 
--- src/lib.rt:145:16
 is-good-requires : tie.Need-is-good-requires Inv-slots μ-slots
 is-good-requires c κs = search needs
 
--- src/lib.rt:146:17
 add-i : tie.Need-add-i Inv-slots μ-slots
 add-i c = omega arith
 
--- src/lib.rt:142:9
 slots-less : tie.Need-slots-less Inv-slots μ-slots
 slots-less c = omega arith
 
--- src/lib.rt:142:9
 slots-again : tie.Need-slots-again Inv-slots μ-slots
 unfolding allGood
 slots-again c = (omega arith, more (c .before .before .before) _ ∙ and-rest _ _ (sym (c .before .is-good .ensures) ∙ c .if2 .taken))
 
--- src/lib.rt:148:17
 returns-2 : tie.Need-returns-2 Inv-slots μ-slots
 unfolding allGood keepOutsOf goodTable
 returns-2 c =
@@ -82,7 +71,6 @@ returns-2 c =
     more turn _ ∙ and-left _ _ (sym (c .before .is-good .ensures) ∙ c .if2 .left) in
     sym (and-rest _ _ (le-leb _ _ (turn .before .before .if1 .left)) ∙ bad)
 
--- src/lib.rt:134:5
 returns-3 : tie.Need-returns-3 Inv-slots μ-slots
 unfolding allGood keepOutsOf goodTable
 returns-3 c = sym (and-rest _ _ (le-leb _ _ (c .before .before .if1 .left)) ∙ left-none (λ (l : List Slot). allGood (map heldOf l)) _ _ _ (c .slots-test .left) (c .before .slots .inv .1))

@@ -1,11 +1,9 @@
+-- `keep_out::KeepOuts::new` meets its contract.
 use mathlib.Core.Path.{refl}
 use Rattle.keep_out.specs.Table.{emptyTable}
 use Rattle.keep_out.proofs.KeepOuts.new.Statement.{statement}
 use Rattle.keep_out.proofs.KeepOuts.new.Tie as tie
-use Rattle.keep_out.proofs.KeepOuts.new.Reads as reads
-use Rattle.keep_out.proofs.KeepOuts.new.Lts as lts
 
--- src/lib.rt:108:5
 returns : tie.Need-returns
 unfolding emptyTable
 returns c = refl

@@ -1,30 +1,24 @@
+-- `keep_out::KeepOuts::with` meets its contract.
 use borrow.Author.Tests.{lt-ltb, le-ltb}
 use Rattle.laws.specs.Cases.{cases}
 use Rattle.keep_out.specs.Table.{withOf}
 use borrow.Author.Needs.{needs}
 use Rattle.keep_out.proofs.KeepOuts.with.Statement.{statement}
 use Rattle.keep_out.proofs.KeepOuts.with.Tie as tie
-use Rattle.keep_out.proofs.KeepOuts.with.Reads as reads
-use Rattle.keep_out.proofs.KeepOuts.with.Lts as lts
 
--- src/lib.rt:126:13
 mul-t7 : tie.Need-mul-t7
 mul-t7 c = search needs
 
--- src/lib.rt:126:13
 element-set-from-table : tie.Need-element-set-from-table
 element-set-from-table c = search needs
 
--- src/lib.rt:127:27
 add-table : tie.Need-add-table
 add-table c = search needs
 
--- src/lib.rt:128:13
 returns : tie.Need-returns
 unfolding withOf
 returns c = simp (lt-ltb _ _ (c .if1 .taken))
 
--- src/lib.rt:120:5
 returns-2 : tie.Need-returns-2
 unfolding withOf
 returns-2 c = simp (le-ltb _ _ (c .if1 .left))

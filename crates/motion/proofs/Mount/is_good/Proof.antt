@@ -1,37 +1,27 @@
+-- `motion::Mount::is_good` meets its contract.
 use Rattle.laws.specs.Cases.{cases}
 use Rattle.motion.specs.Valid.{goodMount}
 use borrow.Author.Needs.{needs}
 use Rattle.motion.proofs.Mount.is_good.Statement.{statement}
 use Rattle.motion.proofs.Mount.is_good.Tie as tie
-use Rattle.motion.proofs.Mount.is_good.Reads as reads
-use Rattle.motion.proofs.Mount.is_good.Lts as lts
-use Rattle.keep_out.proofs.KeepOuts.is_good.Reads as KeepOuts-is-good-reads
-use Rattle.state.proofs.Length.is_good.Reads as Length-is-good-reads
-use Rattle.state.proofs.Limits.is_good.Reads as Limits-is-good-reads
 
--- src/lib.rt:116:12
 is-good-requires : tie.Need-is-good-requires
 is-good-requires c κs = search needs
 
--- src/lib.rt:117:16
 is-good-requires-2 : tie.Need-is-good-requires-2
 is-good-requires-2 c κs = search needs
 
--- src/lib.rt:118:17
 is-good-requires-3 : tie.Need-is-good-requires-3
 is-good-requires-3 c κs = search needs
 
--- src/lib.rt:118:17
 returns : tie.Need-returns
 unfolding goodMount
 returns c = search (cases, needs)
 
--- src/lib.rt:113:5
 returns-2 : tie.Need-returns-2
 unfolding goodMount
 returns-2 c = search (cases, needs)
 
--- src/lib.rt:113:5
 returns-3 : tie.Need-returns-3
 unfolding goodMount
 returns-3 c = search (cases, needs)

@@ -5,7 +5,6 @@ use Prim.Native.Nat.{_≤_, _-_}
 use mathlib.Core.Path.{_≡_}
 use Rattle.planner_calls.proofs.connect_calls.goal_table.Statement.{statement}
 use Rattle.planner_calls.proofs.connect_calls.goal_table.Tie as tie
-use Rattle.rrt_connect.proofs.RrtConnect.goal_node.Reads as Rrt-node-reads
 
 abbrev Inv-loop : tie.InvT-loop
 Inv-loop out₀ planner size used₀ i₀ out used i = (length out ≡ length out₀) × (i ≤ size)

@@ -1,21 +1,16 @@
+-- `rrt::Rrt::size` meets its contract.
 use Rattle.rrt.proofs.Views.{size-set, size-unset}
 use mathlib.Core.Path.{_≡_, sym, _∙_}
 use borrow.Author.Needs.{needs}
 use Rattle.rrt.proofs.Rrt.size.Statement.{statement}
 use Rattle.rrt.proofs.Rrt.size.Tie as tie
-use Rattle.rrt.proofs.Rrt.size.Reads as reads
-use Rattle.rrt.proofs.Rrt.size.Lts as lts
-use Rattle.rrt.proofs.usable.Reads as usable-reads
 
--- src/lib.rt:252:12
 usable-requires : tie.Need-usable-requires
 usable-requires c κs = search needs
 
--- src/lib.rt:248:5
 returns : tie.Need-returns
 returns c = size-set _ (sym (c .before .usable .ensures) ∙ c .if1 .taken)
 
--- src/lib.rt:248:5
 returns-2 : tie.Need-returns-2
 returns-2 c = size-unset _ (sym (c .before .usable .ensures) ∙ c .if1 .left)
 

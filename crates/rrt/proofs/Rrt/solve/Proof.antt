@@ -1,39 +1,29 @@
+-- `rrt::Rrt::solve` meets its contract.
 use Rattle.rrt.proofs.Solves.{solve-unset, solve-room, solve-bad, solve-ran}
 use Rattle.rrt.proofs.Views.{usable-some, usable-most}
 use mathlib.Core.Path.{_≡_, sym, _∙_}
 use borrow.Author.Needs.{needs}
 use Rattle.rrt.proofs.Rrt.solve.Statement.{statement}
 use Rattle.rrt.proofs.Rrt.solve.Tie as tie
-use Rattle.rrt.proofs.Rrt.solve.Reads as reads
-use Rattle.rrt.proofs.Rrt.solve.Lts as lts
-use Rattle.rrt.proofs.run.Reads as run-reads
-use Rattle.rrt.proofs.usable.Reads as usable-reads
-use Rattle.samples.proofs.are_good.Reads as are-good-reads
 
--- src/lib.rt:210:12
 usable-requires : tie.Need-usable-requires
 usable-requires c κs = search needs
 
--- src/lib.rt:212:17
 returns : tie.Need-returns
 returns c = solve-room _ _ _ (sym (c .before .before .usable .ensures) ∙ c .before .if1 .taken) (c .if2 .taken)
 
--- src/lib.rt:219:16
 are-good-requires : tie.Need-are-good-requires
 are-good-requires c κs = search needs
 
--- src/lib.rt:220:21
 run-requires : tie.Need-run-requires
 run-requires c κs =
     let inside = c .before .before .before .before in
     let u = sym (inside .before .usable .ensures) ∙ inside .if1 .taken in
     (usable-some _ _ u, usable-most _ _ u, c .before .before .before .if2 .left)
 
--- src/lib.rt:225:17
 same-length : tie.Need-same-length
 same-length c = search needs
 
--- src/lib.rt:225:17
 returns-2 : tie.Need-returns-2
 returns-2 c =
     let run = c .before .before .before in
@@ -42,13 +32,11 @@ returns-2 c =
     let u = sym (inside .before .usable .ensures) ∙ inside .if1 .taken in
     solve-ran _ _ _ u (good .before .if2 .left) _ _ (run .run .ensures) (sym (good .are-good .ensures) ∙ run .before .before .if3 .taken)
 
--- src/lib.rt:232:13
 returns-3 : tie.Need-returns-3
 returns-3 c =
     let inside = c .before .before .before in
     solve-bad _ _ _ (sym (inside .before .usable .ensures) ∙ inside .if1 .taken) (c .before .before .if2 .left) (sym (c .before .are-good .ensures) ∙ c .if3 .left)
 
--- src/lib.rt:206:5
 returns-4 : tie.Need-returns-4
 returns-4 c = solve-unset _ _ _ (sym (c .before .usable .ensures) ∙ c .if1 .left)
 

@@ -1,21 +1,16 @@
+-- `rrt_connect::RrtConnect::goal_size` meets its contract.
 use Rattle.rrt_connect.proofs.Views.{goal-size-set, goal-size-unset}
 use mathlib.Core.Path.{_≡_, sym, _∙_}
 use borrow.Author.Needs.{needs}
 use Rattle.rrt_connect.proofs.RrtConnect.goal_size.Statement.{statement}
 use Rattle.rrt_connect.proofs.RrtConnect.goal_size.Tie as tie
-use Rattle.rrt_connect.proofs.RrtConnect.goal_size.Reads as reads
-use Rattle.rrt_connect.proofs.RrtConnect.goal_size.Lts as lts
-use Rattle.rrt_connect.proofs.usable.Reads as usable-reads
 
--- src/lib.rt:334:12
 usable-requires : tie.Need-usable-requires
 usable-requires c κs = search needs
 
--- src/lib.rt:330:5
 returns : tie.Need-returns
 returns c = goal-size-set _ (sym (c .before .usable .ensures) ∙ c .if1 .taken)
 
--- src/lib.rt:330:5
 returns-2 : tie.Need-returns-2
 returns-2 c = goal-size-unset _ (sym (c .before .usable .ensures) ∙ c .if1 .left)
 

@@ -1,39 +1,29 @@
+-- `rrt_connect::RrtConnect::solve` meets its contract.
 use Rattle.rrt_connect.proofs.Solves.{solve-unset, solve-room, solve-bad, solve-ran}
 use Rattle.rrt_connect.proofs.Views.{usable-some, usable-most, usable-goal}
 use mathlib.Core.Path.{_≡_, sym, _∙_}
 use borrow.Author.Needs.{needs}
 use Rattle.rrt_connect.proofs.RrtConnect.solve.Statement.{statement}
 use Rattle.rrt_connect.proofs.RrtConnect.solve.Tie as tie
-use Rattle.rrt_connect.proofs.RrtConnect.solve.Reads as reads
-use Rattle.rrt_connect.proofs.RrtConnect.solve.Lts as lts
-use Rattle.rrt_connect.proofs.run.Reads as run-reads
-use Rattle.rrt_connect.proofs.usable.Reads as usable-reads
-use Rattle.samples.proofs.are_good.Reads as are-good-reads
 
--- src/lib.rt:271:12
 usable-requires : tie.Need-usable-requires
 usable-requires c κs = search needs
 
--- src/lib.rt:273:17
 returns : tie.Need-returns
 returns c = solve-room _ _ _ (sym (c .before .before .usable .ensures) ∙ c .before .if1 .taken) (c .if2 .taken)
 
--- src/lib.rt:280:16
 are-good-requires : tie.Need-are-good-requires
 are-good-requires c κs = search needs
 
--- src/lib.rt:281:21
 run-requires : tie.Need-run-requires
 run-requires c κs =
     let inside = c .before .before .before .before in
     let u = sym (inside .before .usable .ensures) ∙ inside .if1 .taken in
     (usable-some _ _ _ u, usable-most _ _ _ u, usable-goal _ _ _ u, c .before .before .before .if2 .left)
 
--- src/lib.rt:296:17
 same-length : tie.Need-same-length
 same-length c = search needs
 
--- src/lib.rt:296:17
 returns-2 : tie.Need-returns-2
 returns-2 c =
     let run = c .before .before .before .before in
@@ -42,13 +32,11 @@ returns-2 c =
     let u = sym (inside .before .usable .ensures) ∙ inside .if1 .taken in
     solve-ran _ _ _ u (good .before .if2 .left) _ _ (run .run .ensures) (sym (good .are-good .ensures) ∙ run .before .before .if3 .taken)
 
--- src/lib.rt:303:13
 returns-3 : tie.Need-returns-3
 returns-3 c =
     let inside = c .before .before .before in
     solve-bad _ _ _ (sym (inside .before .usable .ensures) ∙ inside .if1 .taken) (c .before .before .if2 .left) (sym (c .before .are-good .ensures) ∙ c .if3 .left)
 
--- src/lib.rt:266:5
 returns-4 : tie.Need-returns-4
 returns-4 c = solve-unset _ _ _ (sym (c .before .usable .ensures) ∙ c .if1 .left)
 

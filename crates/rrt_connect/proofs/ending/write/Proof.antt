@@ -1,3 +1,4 @@
+-- `rrt_connect::ending::write` meets its contract.
 use Prim.Native.Nat.{_≤_}
 use native.Mathlib.Omega.{arith}
 use mathlib.Core.Path.{_≡_, refl, sym, _∙_}
@@ -10,10 +11,6 @@ use Rattle.rrt_connect.proofs.Endings.{end-goes-on, end-full, end-goal,
 use borrow.Author.Needs.{needs}
 use Rattle.rrt_connect.proofs.ending.write.Statement.{statement}
 use Rattle.rrt_connect.proofs.ending.write.Tie as tie
-use Rattle.rrt_connect.proofs.ending.write.Reads as reads
-use Rattle.rrt_connect.proofs.ending.write.Lts as lts
-use Rattle.route.proofs.append_ancestors.Reads as append-ancestors-reads
-use Rattle.route.proofs.reconstruct_path.Reads as reconstruct-path-reads
 
 -- the start tree's route has at most 512 states, and the goal tree's at most 511 more
 module _ (c : tie.After-reconstruct-path2) where
@@ -31,68 +28,53 @@ up-short c =
     let s = start (c .before .before .before .before) in
     omega (arith, c .append-ancestors .ensures .few, states-length (now (s .args .goal-az)) (now (s .args .goal-el)) (now (s .args .goal-feed)) (s .args .m) (s .pre .3))
 
--- src/ending.rt:53:25
 enum-told : tie.Need-enum-told
 enum-told c = search needs
 
--- src/ending.rt:54:23
 enum-told-2 : tie.Need-enum-told-2
 enum-told-2 c = search needs
 
--- src/ending.rt:55:72
 enum-told-3 : tie.Need-enum-told-3
 enum-told-3 c = search needs
 
--- src/ending.rt:55:72
 sub-reconstruct-path : tie.Need-sub-reconstruct-path
 sub-reconstruct-path c = search needs
 
--- src/ending.rt:55:23
 reconstruct-path-requires : tie.Need-reconstruct-path-requires
 reconstruct-path-requires c κs = search needs
 
--- src/ending.rt:57:70
 enum-told-4 : tie.Need-enum-told-4
 enum-told-4 c = search needs
 
--- src/ending.rt:57:70
 sub-reconstruct-path-2 : tie.Need-sub-reconstruct-path-2
 sub-reconstruct-path-2 c = search needs
 
--- src/ending.rt:57:17
 reconstruct-path-requires-2 : tie.Need-reconstruct-path-requires-2
 reconstruct-path-requires-2 c κs = search needs
 
--- src/ending.rt:64:17
 sub-append-ancestors : tie.Need-sub-append-ancestors
 sub-append-ancestors c = search needs
 
--- src/ending.rt:58:17
 append-ancestors-requires : tie.Need-append-ancestors-requires
 append-ancestors-requires c κs =
     let path = c .before .before .before in
     let s = start path in
     (omega arith, s .pre .3, omega (arith, short path, path .reconstruct-path2 .kept .1 .1 .1 .1 .1 .1 .0))
 
--- src/ending.rt:68:13
 add-result : tie.Need-add-result
 add-result c =
     let up = c .before .before in
     omega (arith, short (up .before .before .before .before), up-short up)
 
--- src/ending.rt:35:1
 returns : tie.Need-returns
 returns c = end-goes-on _ _ _ _ _ _ (c .enum-told .given .1)
 
--- src/ending.rt:35:1
 returns-2 : tie.Need-returns-2
 returns-2 c = end-full _ _ _ _ _ _ (c .enum-told2 .given .1)
 
--- src/ending.rt:35:1
 same-length : tie.Need-same-length
 same-length c = search needs
 
--- src/ending.rt:35:1
 returns-3 : tie.Need-returns-3
 returns-3 c =
     let path = c .before .before in
@@ -101,11 +83,9 @@ returns-3 c =
     (columnsAt (now (s .args .goal-az)) (now (s .args .goal-el)) (now (s .args .goal-feed)) (now (s .args .goal-parent))) _ (s .pre .1) (s .pre .3) _
     (path .before .before .enum-told3 .given .1) _ _ (path .reconstruct-path .ensures)
 
--- src/ending.rt:35:1
 same-length-2 : tie.Need-same-length-2
 same-length-2 c = search needs
 
--- src/ending.rt:35:1
 returns-4 : tie.Need-returns-4
 returns-4 c =
     let up = c .before .before in

@@ -1,28 +1,22 @@
+-- `rrt_connect::round::plant` meets its contract.
 use denote.Ref.{now}
 use Rattle.rrt_connect.proofs.Rounding.{planted}
 use borrow.Author.Needs.{needs}
 use Rattle.rrt_connect.proofs.round.plant.Statement.{statement}
 use Rattle.rrt_connect.proofs.round.plant.Tie as tie
-use Rattle.rrt_connect.proofs.round.plant.Reads as reads
-use Rattle.rrt_connect.proofs.round.plant.Lts as lts
 
--- src/round.rt:34:5
 element-write-az : tie.Need-element-write-az
 element-write-az c = search needs
 
--- src/round.rt:35:5
 element-write-el : tie.Need-element-write-el
 element-write-el c = search needs
 
--- src/round.rt:36:5
 element-write-feed : tie.Need-element-write-feed
 element-write-feed c = search needs
 
--- src/round.rt:37:5
 element-write-parent : tie.Need-element-write-parent
 element-write-parent c = search needs
 
--- src/round.rt:24:1
 returns : tie.Need-returns
 returns c = planted (now (c .args .az)) (now (c .args .el)) (now (c .args .feed)) (now (c .args .parent)) (c .args .s) (c .pre)
 

@@ -1,3 +1,4 @@
+-- `rrt_connect::round::round` meets its contract.
 use mathlib.Core.Path.{_≡_, refl}
 use denote.Ref.{now}
 use Rattle.tree.specs.Table.{nodesIn}
@@ -7,16 +8,10 @@ use Rattle.rrt_connect.proofs.Rounding.{round-planted, round-start, rou
 use borrow.Author.Needs.{needs}
 use Rattle.rrt_connect.proofs.round.round.Statement.{statement}
 use Rattle.rrt_connect.proofs.round.round.Tie as tie
-use Rattle.rrt_connect.proofs.round.round.Reads as reads
-use Rattle.rrt_connect.proofs.round.round.Lts as lts
-use Rattle.rrt_connect.proofs.round.plant.Reads as plant-reads
-use Rattle.rrt_connect.proofs.turn.turn.Reads as turn-reads
 
--- src/round.rt:66:9
 plant-requires : tie.Need-plant-requires
 plant-requires c κs = search needs
 
--- src/round.rt:67:9
 returns : tie.Need-returns
 unfolding treesAt
 returns c =
@@ -25,11 +20,9 @@ returns c =
     (columnsAt (now (s .args .goal-az)) (now (s .args .goal-el)) (now (s .args .goal-feed)) (now (s .args .goal-parent))) (s .pre .0 .1) (s .pre .1 .0) _
     (c .before .before .before .before .before .if1 .taken) (record { tree = refl; some = s .pre .0 .0; room = s .pre .0 .1; sized = s .pre .0 .2 }) _ (c .plant .ensures)
 
--- src/round.rt:74:13
 turn-requires : tie.Need-turn-requires
 turn-requires c κs = search needs
 
--- src/round.rt:96:9
 returns-2 : tie.Need-returns-2
 unfolding treesAt
 returns-2 c =
@@ -39,11 +32,9 @@ returns-2 c =
     (columnsAt (now (s .args .goal-az)) (now (s .args .goal-el)) (now (s .args .goal-feed)) (now (s .args .goal-parent))) (s .pre .0 .1) (s .pre .1 .0) _
     (inside .before .if1 .left) (inside .if2 .taken) (c .turn .result) _ _ (c .turn .ensures)
 
--- src/round.rt:102:9
 turn-requires-2 : tie.Need-turn-requires-2
 turn-requires-2 c κs = search needs
 
--- src/round.rt:41:1
 returns-3 : tie.Need-returns-3
 unfolding treesAt
 returns-3 c =

@@ -1,3 +1,4 @@
+-- `rrt_connect::turn::turn` meets its contract.
 use denote.Ref.{now}
 use Rattle.tree.specs.Table.{nodesIn}
 use Rattle.rrt_connect.specs.Turn.{columnsAt, Holds}
@@ -8,11 +9,6 @@ use Rattle.rrt_connect.proofs.Turning.{turn-refused, turn-full, turn-go
 use borrow.Author.Needs.{needs}
 use Rattle.rrt_connect.proofs.turn.turn.Statement.{statement}
 use Rattle.rrt_connect.proofs.turn.turn.Tie as tie
-use Rattle.rrt_connect.proofs.turn.turn.Reads as reads
-use Rattle.rrt_connect.proofs.turn.turn.Lts as lts
-use Rattle.extend.proofs.extend.Reads as extend-reads
-use Rattle.rrt_connect.proofs.turn.connected.Reads as connected-reads
-use Rattle.state.proofs.Goal.is_satisfied.Reads as is-satisfied-reads
 
 -- the other tree, as it came
 beside :
@@ -22,27 +18,21 @@ beside :
     (nodesIn (o .m) (now (o .other-az)) (now (o .other-el)) (now (o .other-feed)) (now (o .other-parent)))
 beside s = record { tree = refl; some = s .pre .1 .0; room = s .pre .1 .1; sized = s .pre .1 .2 }
 
--- src/turn.rt:119:9
 extend-requires : tie.Need-extend-requires
 extend-requires c κs = search needs
 
--- src/turn.rt:137:19
 enum-told : tie.Need-enum-told
 enum-told c = search needs
 
--- src/turn.rt:142:19
 enum-told-2 : tie.Need-enum-told-2
 enum-told-2 c = search needs
 
--- src/turn.rt:147:17
 enum-told-3 : tie.Need-enum-told-3
 enum-told-3 c = search needs
 
--- src/turn.rt:149:20
 is-satisfied-requires : tie.Need-is-satisfied-requires
 is-satisfied-requires c κs = search needs
 
--- src/turn.rt:150:21
 returns : tie.Need-returns
 returns c =
     let told = c .before .before .before .before in
@@ -51,25 +41,21 @@ returns c =
     turn-goal _ _ _ _ _ (step .extend .result) _ _ _ _ (step .extend .ensures) _ _ (beside start) (told .enum-told3 .given .1)
     (and-true _ _ (c .before .before .if1 .taken) (sym (c .before .is-satisfied .ensures) ∙ c .if2 .taken))
 
--- src/turn.rt:157:13
 connected-requires : tie.Need-connected-requires
 connected-requires c κs = search needs
 
--- src/turn.rt:94:1
 returns-2 : tie.Need-returns-2
 returns-2 c =
     let step = c .before .before in
     let start = step .before .before .before .before .before in
     turn-refused _ _ _ _ _ (step .extend .result) _ _ _ _ (step .extend .ensures) _ _ (beside start) (c .enum-told .given .1)
 
--- src/turn.rt:94:1
 returns-3 : tie.Need-returns-3
 returns-3 c =
     let step = c .before .before in
     let start = step .before .before .before .before .before in
     turn-full _ _ _ _ _ (step .extend .result) _ _ _ _ (step .extend .ensures) _ _ (beside start) (c .enum-told2 .given .1)
 
--- src/turn.rt:94:1
 returns-4 : tie.Need-returns-4
 returns-4 c =
     let joined = c .before .before .before .before .before in

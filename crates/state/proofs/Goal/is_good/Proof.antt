@@ -1,27 +1,20 @@
+-- `state::Goal::is_good` meets its contract.
 use Rattle.laws.specs.Cases.{cases}
 use Rattle.state.specs.Ranges.{goodGoal}
 use borrow.Author.Needs.{needs}
 use Rattle.state.proofs.Goal.is_good.Statement.{statement}
 use Rattle.state.proofs.Goal.is_good.Tie as tie
-use Rattle.state.proofs.Goal.is_good.Reads as reads
-use Rattle.state.proofs.Goal.is_good.Lts as lts
-use Rattle.state.proofs.State.is_good.Reads as is-good-reads
-use Rattle.state.proofs.inside.Reads as inside-reads
 
--- src/lib.rt:234:12
 is-good-requires : tie.Need-is-good-requires
 is-good-requires c κs = search needs
 
--- src/lib.rt:235:13
 inside-requires : tie.Need-inside-requires
 inside-requires c κs = search needs
 
--- src/lib.rt:235:13
 returns : tie.Need-returns
 unfolding goodGoal
 returns c = search (cases, needs)
 
--- src/lib.rt:230:5
 returns-2 : tie.Need-returns-2
 unfolding goodGoal
 returns-2 c = search (cases, needs)

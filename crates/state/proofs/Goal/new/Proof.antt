@@ -1,22 +1,17 @@
+-- `state::Goal::new` meets its contract.
 use Rattle.laws.specs.Cases.{cases}
 use Rattle.state.specs.Made.{goalOf}
 use borrow.Author.Needs.{needs}
 use Rattle.state.proofs.Goal.new.Statement.{statement}
 use Rattle.state.proofs.Goal.new.Tie as tie
-use Rattle.state.proofs.Goal.new.Reads as reads
-use Rattle.state.proofs.Goal.new.Lts as lts
-use Rattle.state.proofs.Goal.is_good.Reads as is-good-reads
 
--- src/lib.rt:224:12
 is-good-requires : tie.Need-is-good-requires
 is-good-requires c κs = search needs
 
--- src/lib.rt:225:13
 returns : tie.Need-returns
 unfolding goalOf
 returns c = search (cases, needs)
 
--- src/lib.rt:220:5
 returns-2 : tie.Need-returns-2
 unfolding goalOf
 returns-2 c = search (cases, needs)

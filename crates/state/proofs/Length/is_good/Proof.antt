@@ -1,17 +1,13 @@
+-- `state::Length::is_good` meets its contract.
 use Rattle.laws.specs.Cases.{cases}
 use Rattle.state.specs.Ranges.{goodLength}
 use borrow.Author.Needs.{needs}
 use Rattle.state.proofs.Length.is_good.Statement.{statement}
 use Rattle.state.proofs.Length.is_good.Tie as tie
-use Rattle.state.proofs.Length.is_good.Reads as reads
-use Rattle.state.proofs.Length.is_good.Lts as lts
-use Rattle.state.proofs.inside.Reads as inside-reads
 
--- src/lib.rt:200:9
 inside-requires : tie.Need-inside-requires
 inside-requires c κs = search needs
 
--- src/lib.rt:197:5
 returns : tie.Need-returns
 unfolding goodLength
 returns c = search (cases, needs)

@@ -1,22 +1,17 @@
+-- `state::Length::new` meets its contract.
 use Rattle.laws.specs.Cases.{cases}
 use Rattle.state.specs.Made.{lengthOf}
 use borrow.Author.Needs.{needs}
 use Rattle.state.proofs.Length.new.Statement.{statement}
 use Rattle.state.proofs.Length.new.Tie as tie
-use Rattle.state.proofs.Length.new.Reads as reads
-use Rattle.state.proofs.Length.new.Lts as lts
-use Rattle.state.proofs.Length.is_good.Reads as is-good-reads
 
--- src/lib.rt:191:12
 is-good-requires : tie.Need-is-good-requires
 is-good-requires c κs = search needs
 
--- src/lib.rt:192:13
 returns : tie.Need-returns
 unfolding lengthOf
 returns c = search (cases, needs)
 
--- src/lib.rt:187:5
 returns-2 : tie.Need-returns-2
 unfolding lengthOf
 returns-2 c = search (cases, needs)

@@ -1,17 +1,13 @@
+-- `state::Limits::is_good` meets its contract.
 use Rattle.laws.specs.Cases.{cases}
 use Rattle.state.specs.Ranges.{goodLimits}
 use borrow.Author.Needs.{needs}
 use Rattle.state.proofs.Limits.is_good.Statement.{statement}
 use Rattle.state.proofs.Limits.is_good.Tie as tie
-use Rattle.state.proofs.Limits.is_good.Reads as reads
-use Rattle.state.proofs.Limits.is_good.Lts as lts
-use Rattle.state.proofs.State.spans.Reads as spans-reads
 
--- src/lib.rt:181:9
 spans-requires : tie.Need-spans-requires
 spans-requires c κs = search needs
 
--- src/lib.rt:178:5
 returns : tie.Need-returns
 unfolding goodLimits
 returns c = search (cases, needs)

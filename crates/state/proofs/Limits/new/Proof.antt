@@ -1,22 +1,17 @@
+-- `state::Limits::new` meets its contract.
 use Rattle.laws.specs.Cases.{cases}
 use Rattle.state.specs.Made.{limitsOf}
 use borrow.Author.Needs.{needs}
 use Rattle.state.proofs.Limits.new.Statement.{statement}
 use Rattle.state.proofs.Limits.new.Tie as tie
-use Rattle.state.proofs.Limits.new.Reads as reads
-use Rattle.state.proofs.Limits.new.Lts as lts
-use Rattle.state.proofs.Limits.is_good.Reads as is-good-reads
 
--- src/lib.rt:148:12
 is-good-requires : tie.Need-is-good-requires
 is-good-requires c κs = search needs
 
--- src/lib.rt:149:13
 returns : tie.Need-returns
 unfolding limitsOf
 returns c = search (cases, needs)
 
--- src/lib.rt:144:5
 returns-2 : tie.Need-returns-2
 unfolding limitsOf
 returns-2 c = search (cases, needs)

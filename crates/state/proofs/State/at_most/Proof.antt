@@ -1,22 +1,18 @@
+-- `state::State::at_most` meets its contract.
 use borrow.Author.Needs.{needs}
 use Rattle.laws.specs.Cases.{cases}
 use Rattle.state.specs.Ranges.{atMostOf}
 use Rattle.state.proofs.State.at_most.Statement.{statement}
 use Rattle.state.proofs.State.at_most.Tie as tie
-use Rattle.state.proofs.State.at_most.Reads as reads
-use Rattle.state.proofs.State.at_most.Lts as lts
 
--- src/lib.rt:100:17
 returns : tie.Need-returns
 unfolding atMostOf
 returns c = search (cases, needs)
 
--- src/lib.rt:95:5
 returns-2 : tie.Need-returns-2
 unfolding atMostOf
 returns-2 c = search (cases, needs)
 
--- src/lib.rt:95:5
 returns-3 : tie.Need-returns-3
 unfolding atMostOf
 returns-3 c = search (cases, needs)

@@ -1,27 +1,21 @@
+-- `state::State::distance` meets its contract.
 use mathlib.Core.Path.{_≡_, refl}
 use lib.Ieee.{lt, ofBits}
 use Rattle.state.specs.Distance.{distanceOf}
 use borrow.Author.Needs.{needs}
 use Rattle.state.proofs.State.distance.Statement.{statement}
 use Rattle.state.proofs.State.distance.Tie as tie
-use Rattle.state.proofs.State.distance.Reads as reads
-use Rattle.state.proofs.State.distance.Lts as lts
-use Rattle.state.proofs.widened.Reads as widened-reads
 
--- src/lib.rt:98:13
 widened-requires : tie.Need-widened-requires
 unfolding lt ofBits
 widened-requires c κs = refl
 
--- src/lib.rt:99:13
 widened-requires-2 : tie.Need-widened-requires-2
 widened-requires-2 c κs = search needs
 
--- src/lib.rt:100:9
 widened-requires-3 : tie.Need-widened-requires-3
 widened-requires-3 c κs = search needs
 
--- src/lib.rt:95:5
 returns : tie.Need-returns
 unfolding distanceOf
 returns c = let x = c .before .before .widened .ensures .0 in let y = c .before .widened2 .ensures .0 in let z = c .widened3 .ensures .0 in cc

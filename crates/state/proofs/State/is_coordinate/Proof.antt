@@ -1,17 +1,13 @@
+-- `state::State::is_coordinate` meets its contract.
 use Rattle.laws.specs.Cases.{cases}
 use Rattle.state.specs.Ranges.{coordinateOf}
 use borrow.Author.Needs.{needs}
 use Rattle.state.proofs.State.is_coordinate.Statement.{statement}
 use Rattle.state.proofs.State.is_coordinate.Tie as tie
-use Rattle.state.proofs.State.is_coordinate.Reads as reads
-use Rattle.state.proofs.State.is_coordinate.Lts as lts
-use Rattle.state.proofs.inside.Reads as inside-reads
 
--- src/lib.rt:68:9
 inside-requires : tie.Need-inside-requires
 inside-requires c κs = search needs
 
--- src/lib.rt:65:5
 returns : tie.Need-returns
 unfolding coordinateOf
 returns c = search (cases, needs)

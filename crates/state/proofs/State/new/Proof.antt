@@ -1,22 +1,17 @@
+-- `state::State::new` meets its contract.
 use Rattle.laws.specs.Cases.{cases}
 use Rattle.state.specs.Made.{stateOf}
 use borrow.Author.Needs.{needs}
 use Rattle.state.proofs.State.new.Statement.{statement}
 use Rattle.state.proofs.State.new.Tie as tie
-use Rattle.state.proofs.State.new.Reads as reads
-use Rattle.state.proofs.State.new.Lts as lts
-use Rattle.state.proofs.State.is_good.Reads as is-good-reads
 
--- src/lib.rt:58:12
 is-good-requires : tie.Need-is-good-requires
 is-good-requires c κs = search needs
 
--- src/lib.rt:59:13
 returns : tie.Need-returns
 unfolding stateOf
 returns c = search (cases, needs)
 
--- src/lib.rt:54:5
 returns-2 : tie.Need-returns-2
 unfolding stateOf
 returns-2 c = search (cases, needs)

@@ -1,36 +1,27 @@
+-- `state::State::spans` meets its contract.
 use Rattle.laws.specs.Cases.{cases}
 use Rattle.state.specs.Ranges.{goodSpan}
 use borrow.Author.Needs.{needs}
 use Rattle.state.proofs.State.spans.Statement.{statement}
 use Rattle.state.proofs.State.spans.Tie as tie
-use Rattle.state.proofs.State.spans.Reads as reads
-use Rattle.state.proofs.State.spans.Lts as lts
-use Rattle.state.proofs.State.at_most.Reads as at-most-reads
-use Rattle.state.proofs.State.is_good.Reads as is-good-reads
 
--- src/lib.rt:110:12
 is-good-requires : tie.Need-is-good-requires
 is-good-requires c κs = search needs
 
--- src/lib.rt:111:16
 is-good-requires-2 : tie.Need-is-good-requires-2
 is-good-requires-2 c κs = search needs
 
--- src/lib.rt:112:17
 at-most-requires : tie.Need-at-most-requires
 at-most-requires c κs = search needs
 
--- src/lib.rt:112:17
 returns : tie.Need-returns
 unfolding goodSpan
 returns c = search (cases, needs)
 
--- src/lib.rt:107:5
 returns-2 : tie.Need-returns-2
 unfolding goodSpan
 returns-2 c = search (cases, needs)
 
--- src/lib.rt:107:5
 returns-3 : tie.Need-returns-3
 unfolding goodSpan
 returns-3 c = search (cases, needs)

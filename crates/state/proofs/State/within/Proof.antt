@@ -1,35 +1,27 @@
+-- `state::State::within` meets its contract.
 use Rattle.laws.specs.Cases.{cases}
 use Rattle.state.specs.Ranges.{withinOf}
 use borrow.Author.Needs.{needs}
 use Rattle.state.proofs.State.within.Statement.{statement}
 use Rattle.state.proofs.State.within.Tie as tie
-use Rattle.state.proofs.State.within.Reads as reads
-use Rattle.state.proofs.State.within.Lts as lts
-use Rattle.state.proofs.inside.Reads as inside-reads
 
--- src/lib.rt:86:12
 inside-requires : tie.Need-inside-requires
 inside-requires c κs = search needs
 
--- src/lib.rt:87:16
 inside-requires-2 : tie.Need-inside-requires-2
 inside-requires-2 c κs = search needs
 
--- src/lib.rt:88:17
 inside-requires-3 : tie.Need-inside-requires-3
 inside-requires-3 c κs = search needs
 
--- src/lib.rt:88:17
 returns : tie.Need-returns
 unfolding withinOf
 returns c = search (cases, needs)
 
--- src/lib.rt:83:5
 returns-2 : tie.Need-returns-2
 unfolding withinOf
 returns-2 c = search (cases, needs)
 
--- src/lib.rt:83:5
 returns-3 : tie.Need-returns-3
 unfolding withinOf
 returns-3 c = search (cases, needs)
