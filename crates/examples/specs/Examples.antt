@@ -25,17 +25,20 @@ use Rattle.motion.specs.Accepts.{allValid, acceptedOf, acceptsOf}
 use Rattle.motion.specs.declared.Steps.{Steps}
 use Rattle.motion.specs.declared.Steps.the-variants.{Count, Many}
 use Rattle.samples.specs.Samples.{allCoordinates, goodSamples, samplesOf}
-use Rattle.tree.specs.Table.{grownOf, rootOf}
+use Rattle.tree.specs.Table.{Nodes, grownOf, rootOf}
 use Rattle.tree.specs.Nearest.{nearestFrom, nearestOf}
 use Rattle.tree.specs.Step.{stepFrom, stepOf}
 use Rattle.route.specs.Path.{climbOf, pathOf, ancestorsOf, upwardsOf}
 use Rattle.route.specs.Written.{flatOf, writtenOf}
-use Rattle.rrt.specs.Planner.{newOf, goodSetup, setupOf}
+use Rattle.plan.specs.Plan.{Plan}
+use Rattle.plan.specs.Setup.{goodSetup, setupWith}
+use Rattle.plan.specs.Solve.{Outcome, endedOf, solveWith}
+use Rattle.rrt.specs.Planner.{newOf, setupOf}
 use Rattle.rrt.specs.Run.{afterOf, runOf}
-use Rattle.rrt.specs.Solve.{Outcome, endedOf, solveOf}
+use Rattle.rrt.specs.Solve.{solveOf}
 use Rattle.extend.specs.Extend.{afterStep, extendOf}
 use Rattle.rrt_connect.specs.Turn.{connectEnds, byVerdict, turnOf}
-use Rattle.rrt_connect.specs.Round.{roundOf}
+use Rattle.rrt_connect.specs.Round.{Trees, roundOf}
 use Rattle.rrt_connect.specs.Ending.{endPath}
 use Rattle.rrt_connect.specs.Planner as planner
 use Rattle.rrt_connect.specs.Run as run
@@ -73,12 +76,12 @@ gives size answer count taken route numbers samples =
     eqb (numberOf answer) 0 && eqb (3 * count) (length numbers) && eqb taken samples
     && sameNumbers route (numbers ++ replicate (size - length numbers) unused)
 
-unfoldable pub plannedBy : Float → State → Goal → List Float → Outcome
+unfoldable pub plannedBy : Float → State → Goal → List Float → Outcome Plan Nodes
 plannedBy max start goal samples =
     let told = setupOf newOf limits (record { value = segment }) (record { value = max }) start goal emptyTable in
     solveOf (told .planner) samples (replicate 1536 unused)
 
-unfoldable pub connectedBy : Float → State → Goal → List Float → connect.Outcome
+unfoldable pub connectedBy : Float → State → Goal → List Float → Outcome Plan Trees
 connectedBy max start goal samples =
     let told = planner.setupOf planner.newOf limits (record { value = segment }) (record { value = max }) start goal emptyTable in
     connect.solveOf (told .planner) samples (replicate 3069 unused)
@@ -133,5 +136,5 @@ examples =
     ∷ []
 
 pub examples-hold : T (allHold examples)
-unfolding examples allHold holds counts pointsAre gives plannedBy same sameState sameStates sameNumbers distanceOf widerOf apartOf interpolateOf steerBy steerOf satisfiedOf insideOf withinOf coordinateOf goodState atMostOf goodSpan goodLimits goodLength goodGoal coversOf coveredOf allGood goodTable keepOutsOf emptyTable validOf goodMount quotientOf searchOf leastOf stepsOf partWay partWays testedOf checkedAt checkedOf allValid acceptedOf acceptsOf allCoordinates goodSamples samplesOf grownOf rootOf nearestFrom nearestOf stepFrom stepOf climbOf pathOf flatOf writtenOf goodSetup setupOf afterOf runOf endedOf solveOf connectedBy ancestorsOf upwardsOf afterStep extendOf connectEnds byVerdict turnOf roundOf endPath planner.setupOf run.afterOf run.runOf connect.endedOf connect.solveOf add sub mul div lt le ofInt ofBits toBits
+unfolding examples allHold holds counts pointsAre gives plannedBy same sameState sameStates sameNumbers distanceOf widerOf apartOf interpolateOf steerBy steerOf satisfiedOf insideOf withinOf coordinateOf goodState atMostOf goodSpan goodLimits goodLength goodGoal coversOf coveredOf allGood goodTable keepOutsOf emptyTable validOf goodMount quotientOf searchOf leastOf stepsOf partWay partWays testedOf checkedAt checkedOf allValid acceptedOf acceptsOf allCoordinates goodSamples samplesOf grownOf rootOf nearestFrom nearestOf stepFrom stepOf climbOf pathOf flatOf writtenOf goodSetup setupWith setupOf afterOf runOf endedOf solveWith solveOf connectedBy ancestorsOf upwardsOf afterStep extendOf connectEnds byVerdict turnOf roundOf endPath planner.setupOf run.afterOf run.runOf connect.solveOf add sub mul div lt le ofInt ofBits toBits
 examples-hold = tt

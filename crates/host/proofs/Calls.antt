@@ -1,56 +1,56 @@
--- A call of the host from what its setup and its solve gave.
+-- A call of the host, from what its test of the kinds, its setup and its solve gave; for any planner.
 use Prim.Native.Nat.{ℕ}
-use mathlib.Core.Bool.{true, false}
+use mathlib.Core.Bool.{Bool, true, false}
 use mathlib.Core.List.{List}
 use mathlib.Core.Path.{_≡_, refl, sym, _∙_, ap}
 use borrow.Author.Tests.{eq-eqb, ne-eqb}
-use lib.Ieee.{Float, nan}
-use lib.ListN.{getD}
+use lib.Ieee.{Float}
 use Rattle.answer.specs.Number.{numberOf}
 use Rattle.keep_out.specs.declared.KeepOuts.{KeepOuts}
-use Rattle.rrt.specs.declared.Rrt.{Rrt}
-use Rattle.rrt.specs.declared.Answered.{Answered}
-use Rattle.rrt.specs.declared.Solved.{Solved}
-use Rattle.rrt.specs.Planner.{Planner, Told, newOf, plannerOf, answeredOf, setupOf}
-use Rattle.rrt.specs.Solve.{Outcome, solvedOf, solveOf, refusedOf}
-use Rattle.host.specs.Table.{Listed}
-use Rattle.host.specs.Setup.{limitsIn, startIn, goalIn}
-use Rattle.host.specs.Call.{toldOf, afterSetup, Called}
+use Rattle.plan.specs.Plan.{Planner, unset}
+use Rattle.plan.specs.Setup.{Told}
+use Rattle.plan.specs.Solve.{Outcome}
+use Rattle.host.specs.Table.{Listed, knownOf}
+use Rattle.host.specs.Call.{callWith, Reports, Called}
+use Rattle.host.specs.declared.Report.{Report}
 
-module _ (setup : List Float) (kinds : List ℕ) (numbers : List Float) (keepOuts : ℕ) (samples old : List Float) (table : KeepOuts) (listed : Listed kinds numbers keepOuts table)
-    (fresh : Rrt) (is-new : plannerOf fresh ≡ newOf) (made : Answered)
-    (is :
-    answeredOf made
-    ≡ setupOf (plannerOf fresh) (limitsIn setup) (record { value = getD setup 6 nan }) (record { value = getD setup 7 nan }) (startIn setup) (goalIn setup) table)
-    (number : ℕ) (is-number : number ≡ numberOf (made .answer)) where
-  told : toldOf setup table ≡ answeredOf made
-  unfolding toldOf
-  told = sym (is ∙ rw is-new)
+-- `tell` is the planner's setup, and `known` what the test of the kinds gave
+module _ {P A : Type 0} (solve : Planner P A → List Float → List Float → Outcome P A) (tell : Planner P A → KeepOuts → Told P A) (samples old : List Float)
+    (kinds : List ℕ) (numbers : List Float) (count : ℕ) (table : KeepOuts) (listed : Listed kinds numbers count table) (known : Bool) (is : known ≡ knownOf kinds count) where
+  abbrev call : KeepOuts → Outcome P A
+  call t = callWith solve (knownOf kinds count) (tell unset t) samples old
 
-  pub call-refused : (number ≡ 0 → ⊥) → Called setup kinds numbers keepOuts samples old (record { answer = number; count = 0; taken = 0 }) old
-  call-refused h =
-      let e : afterSetup (toldOf setup table) samples old ≡ refusedOf (plannerOf (made .planner)) (made .answer) old =
-      ap (λ (t : Told). afterSetup t samples old) told ∙ (unfold afterSetup in rw (← is-number, ne-eqb number 0 h)) in
-      record {
-        table = table;
-        listed = listed;
-        answer = is-number ∙ sym (ap (λ (o : Outcome). numberOf (o .answer)) e);
-        count = sym (ap (λ (o : Outcome). o .count) e);
-        taken = sym (ap (λ (o : Outcome). o .taken) e);
-        memory = sym (ap (λ (o : Outcome). o .route) e);
-      }
+  abbrev Calls : Report → List Float → Type 0
+  Calls r new = Called call kinds numbers count r new
 
-  pub call-solved :
-      number ≡ 0 → (s : Solved) (new : List Float) → solvedOf s new ≡ solveOf (plannerOf (made .planner)) samples old → (a : ℕ) → a ≡ numberOf (s .answer) →
-      Called setup kinds numbers keepOuts samples old (record { answer = a; count = s .count; taken = s .taken }) new
-  call-solved z s new w a is-a =
-      let ran : afterSetup (answeredOf made) samples old ≡ solveOf (plannerOf (made .planner)) samples old = (unfold afterSetup in rw (← is-number, eq-eqb number 0 z)) in
-      let e : afterSetup (toldOf setup table) samples old ≡ solvedOf s new = ap (λ (t : Told). afterSetup t samples old) told ∙ ran ∙ sym w in
-      record {
-        table = table;
-        listed = listed;
-        answer = is-a ∙ sym (ap (λ (o : Outcome). numberOf (o .answer)) e);
-        count = sym (ap (λ (o : Outcome). o .count) e);
-        taken = sym (ap (λ (o : Outcome). o .taken) e);
-        memory = sym (ap (λ (o : Outcome). o .route) e);
-      }
+  gives : (r : Report) (new : List Float) → Reports (callWith solve known (tell unset table) samples old) r new → Calls r new
+  gives r new w = record { table = table; listed = listed; gives = rw (← is) w }
+
+  unknown : known ≡ false → Reports (callWith solve known (tell unset table) samples old) (record { answer = 2; count = 0; taken = 0 }) old
+  unfolding callWith
+  unknown e = rw e (record { answer = refl; count = refl; taken = refl; memory = refl })
+
+  pub call-unknown : known ≡ false → (r : Report) → r ≡ record { answer = 2; count = 0; taken = 0 } → Calls r old
+  call-unknown e r is-r = rw is-r (gives _ _ (unknown e))
+
+  module _ (e : known ≡ true) (fresh : Planner P A) (is-new : fresh ≡ unset) (made : Told P A) (is-made : made ≡ tell fresh table) (n : ℕ) (is-n : n ≡ numberOf (made .answer)) where
+    told : tell unset table ≡ made
+    told = sym (is-made ∙ ap (λ (p : Planner P A). tell p table) is-new)
+
+    refused : (n ≡ 0 → ⊥) → Reports (callWith solve known made samples old) (record { answer = n; count = 0; taken = 0 }) old
+    unfolding callWith
+    refused h = rw (e, ← is-n, ne-eqb n 0 h) (record { answer = is-n; count = refl; taken = refl; memory = refl })
+
+    pub call-refused : (n ≡ 0 → ⊥) → (r : Report) → r ≡ record { answer = n; count = 0; taken = 0 } → Calls r old
+    call-refused h r is-r = rw is-r (gives _ _ (rw told (refused h)))
+
+    solved :
+        n ≡ 0 → (o : Outcome P A) → o ≡ solve (made .planner) samples old → (a : ℕ) → a ≡ numberOf (o .answer) →
+        Reports (callWith solve known made samples old) (record { answer = a; count = o .count; taken = o .taken }) (o .route)
+    unfolding callWith
+    solved z o is-o a is-a = rw (e, ← is-n, eq-eqb n 0 z, ← is-o) (record { answer = is-a; count = refl; taken = refl; memory = refl })
+
+    pub call-solved :
+        n ≡ 0 → (o : Outcome P A) → o ≡ solve (made .planner) samples old → (a : ℕ) → a ≡ numberOf (o .answer) →
+        Calls (record { answer = a; count = o .count; taken = o .taken }) (o .route)
+    call-solved z o is-o a is-a = gives _ _ (rw told (solved z o is-o a is-a))

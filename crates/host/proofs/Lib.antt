@@ -1,4 +1,4 @@
 -- The crate's laws that belong to no one function.
 pub mod Listing
+pub mod Known
 pub mod Calls
-pub mod ConnectCalls

@@ -1,31 +1,61 @@
--- A call of the host: document 01's setup on the numbers in its order, and if that is done a solve.
+-- A call of the host. A kind that is none of the three is bad input. Else it is document 01's setup on the numbers in its order, and if that is
+-- done a solve.
 use Prim.Native.Nat.{ℕ}
-use mathlib.Core.Bool.{cond}
+use mathlib.Core.Bool.{Bool, cond}
 use mathlib.Core.List.{List}
 use mathlib.Core.Path.{_≡_}
 use lib.Dec.{eqb}
 use lib.Ieee.{Float}
 use Rattle.answer.specs.Number.{numberOf}
+use Rattle.answer.specs.declared.Answer.the-variants.{BadInput}
+use Rattle.state.specs.declared.Length.{Length}
 use Rattle.keep_out.specs.declared.KeepOuts.{KeepOuts}
-use Rattle.rrt.specs.Planner.{Planner, Told, newOf, setupOf}
-use Rattle.rrt.specs.Solve.{Outcome, solveOf, refusedOf}
+use Rattle.tree.specs.Table.{Nodes}
+use Rattle.plan.specs.Plan.{Plan, Planner, unset}
+use Rattle.plan.specs.Setup.{Told}
+use Rattle.plan.specs.Solve.{Outcome, refusedOf}
+use Rattle.rrt.specs.Planner as rrt
+use Rattle.rrt.specs.Solve as rrt-solve
+use Rattle.rrt_connect.specs.Planner as connect
+use Rattle.rrt_connect.specs.Round.{Trees}
+use Rattle.rrt_connect.specs.Solve as connect-solve
 use Rattle.host.specs.Setup.{number, limitsIn, startIn, goalIn}
-use Rattle.host.specs.Table.{Listed}
+use Rattle.host.specs.Table.{Listed, knownOf}
 use Rattle.host.specs.declared.Report.{Report}
 
-unfoldable pub toldOf : List Float → KeepOuts → Told
-toldOf l table = setupOf newOf (limitsIn l) (record { value = number l 6 }) (record { value = number l 7 }) (startIn l) (goalIn l) table
+-- a planner that is set up and solves, where the kinds are known; a refusal keeps the route
+unfoldable pub callWith : {P A : Type 0} → (Planner P A → List Float → List Float → Outcome P A) → Bool → Told P A → List Float → List Float → Outcome P A
+callWith solve known told samples route =
+    let solved = solve (told .planner) samples route in
+    let called = cond (eqb (numberOf (told .answer)) 0) solved (refusedOf (told .planner) (told .answer) route) in
+    cond known called (refusedOf unset BadInput route)
 
--- the solve's outcome, or the setup's refusal with the route kept
-unfoldable pub afterSetup : Told → List Float → List Float → Outcome
-afterSetup told samples route =
-    cond (eqb (numberOf (told .answer)) 0) (solveOf (told .planner) samples route) (refusedOf (told .planner) (told .answer) route)
+abbrev pub lengthAt : List Float → ℕ → Length
+lengthAt l i = record { value = number l i }
+
+-- RRT's setup, and the call
+abbrev pub rrtTold : List Float → rrt.View → KeepOuts → Told Plan Nodes
+rrtTold l planner table = rrt.setupOf planner (limitsIn l) (lengthAt l 6) (lengthAt l 7) (startIn l) (goalIn l) table
+
+unfoldable pub rrtCall : List Float → List ℕ → ℕ → List Float → List Float → KeepOuts → Outcome Plan Nodes
+rrtCall l kinds count samples route table = callWith rrt-solve.solveOf (knownOf kinds count) (rrtTold l rrt.newOf table) samples route
+
+-- RRT-Connect's
+abbrev pub connectTold : List Float → connect.View → KeepOuts → Told Plan Trees
+connectTold l planner table = connect.setupOf planner (limitsIn l) (lengthAt l 6) (lengthAt l 7) (startIn l) (goalIn l) table
+
+unfoldable pub connectCall : List Float → List ℕ → ℕ → List Float → List Float → KeepOuts → Outcome Plan Trees
+connectCall l kinds count samples route table = callWith connect-solve.solveOf (knownOf kinds count) (connectTold l connect.newOf table) samples route
+
+-- what is reported of an outcome, and the route at exit
+pub record Reports {P A : Type 0} (o : Outcome P A) (r : Report) (new : List Float) : Type 0 where
+  pub answer : r .answer ≡ numberOf (o .answer)
+  pub count : r .count ≡ o .count
+  pub taken : r .taken ≡ o .taken
+  pub memory : new ≡ o .route
 
 -- what the call gives. Setup reads nothing of a table but its count and its list, so the table leaves no second answer.
-pub record Called (setup : List Float) (kinds : List ℕ) (numbers : List Float) (keepOuts : ℕ) (samples old : List Float) (r : Report) (new : List Float) : Type 0 where
+pub record Called {P A : Type 0} (call : KeepOuts → Outcome P A) (kinds : List ℕ) (numbers : List Float) (count : ℕ) (r : Report) (new : List Float) : Type 0 where
   pub table : KeepOuts
-  pub listed : Listed kinds numbers keepOuts table
-  pub answer : r .answer ≡ numberOf (afterSetup (toldOf setup table) samples old .answer)
-  pub count : r .count ≡ afterSetup (toldOf setup table) samples old .count
-  pub taken : r .taken ≡ afterSetup (toldOf setup table) samples old .taken
-  pub memory : new ≡ afterSetup (toldOf setup table) samples old .route
+  pub listed : Listed kinds numbers count table
+  pub gives : Reports (call table) r new

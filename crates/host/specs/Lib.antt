@@ -1,4 +1,3 @@
 pub mod Setup
 pub mod Table
 pub mod Call
-pub mod Connect

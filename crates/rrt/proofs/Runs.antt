@@ -18,8 +18,9 @@ use Rattle.tree.specs.declared.Stepped.{Stepped}
 use Rattle.tree.specs.declared.Tree.{Tree}
 use Rattle.tree.proofs.Append.{Sized, putOf, put-grows, nodes-length}
 use Rattle.route.specs.Path.{pathOf}
-use Rattle.rrt.specs.Planner.{Plan}
-use Rattle.rrt.specs.Run.{Ended, noRoute, afterOf, runOf}
+use Rattle.plan.specs.Plan.{Plan}
+use Rattle.plan.specs.Solve.{Ended, noRoute}
+use Rattle.rrt.specs.Run.{afterOf, runOf}
 
 -- the step toward a sample
 abbrev pub stepAt : Plan → List State → State → Stepped
@@ -40,7 +41,7 @@ module _ (p : Plan) (nodes : Nodes) (taken : ℕ) (s : State) (ss : List State) 
 
     run-goal :
         satisfiedOf (p .goal) (e .at) ≡ true →
-        runOf p nodes taken (s ∷ ss) ≡ record { nodes = grown; answer = Done; path = pathOf grown (length (nodes .states)); taken = taken + 1 }
+        runOf p nodes taken (s ∷ ss) ≡ record { tables = grown; answer = Done; path = pathOf grown (length (nodes .states)); taken = taken + 1 }
     unfolding runOf afterOf
     run-goal g = rw (← is, h, lt-ltb (length (nodes .states)) 512 l, g)
 
@@ -54,7 +55,7 @@ module _ (p : Plan) (nodes₀ : Nodes) (t : Tree) (taken : ℕ) (l : List Float)
     (inv : runOf p nodes₀ 0 (samplesOf l) ≡ runOf p (nodesOf t) taken (samplesOf (drop at l))) (e : Stepped)
     (is :
     e ≡ stepAt p (statesOf (t .count) (t .az) (t .el) (t .feed)) (record { az = getD l at nan; el = getD l (at + 1) nan; feed = getD l (at + 2) nan })) where
-  abbrev whole : Ended
+  abbrev whole : Ended Nodes
   whole = runOf p nodes₀ 0 (samplesOf l)
 
   abbrev sample : State
@@ -83,11 +84,11 @@ module _ (p : Plan) (nodes₀ : Nodes) (t : Tree) (taken : ℕ) (l : List Float)
     grows : nodesOf put ≡ grownOf (nodesOf t) (e .at) (e .parent)
     grows = put-grows t (e .at) (e .parent) k z
 
-    pub turn-goal : b ≡ true → whole ≡ record { nodes = nodesOf put; answer = Done; path = pathOf (nodesOf put) (t .count); taken = taken + 1 }
+    pub turn-goal : b ≡ true → whole ≡ record { tables = nodesOf put; answer = Done; path = pathOf (nodesOf put) (t .count); taken = taken + 1 }
     turn-goal g =
         turn ∙ run-goal p (nodesOf t) taken sample _ e is' h (omega (arith, many)) (sym f ∙ g)
-        ∙ ap (λ (x : Nodes). record { nodes = x; answer = Done; path = pathOf x (length (nodesOf t .states)); taken = taken + 1 }) (sym grows)
-        ∙ ap (λ (k : ℕ). record { nodes = nodesOf put; answer = Done; path = pathOf (nodesOf put) k; taken = taken + 1 }) many
+        ∙ ap (λ (x : Nodes). record { tables = x; answer = Done; path = pathOf x (length (nodesOf t .states)); taken = taken + 1 }) (sym grows)
+        ∙ ap (λ (k : ℕ). record { tables = nodesOf put; answer = Done; path = pathOf (nodesOf put) k; taken = taken + 1 }) many
 
     pub turn-added : b ≡ false → whole ≡ runOf p (nodesOf put) (taken + 1) (samplesOf (drop (at + 3) l))
     turn-added g =

@@ -1,63 +1,59 @@
 -- A solve's answer from its tests and its run.
 use Prim.Native.Nat.{ℕ, _≤_, _<_}
-use mathlib.Core.Bool.{true, false}
+use mathlib.Core.Bool.{Bool, true, false}
 use mathlib.Core.List.{List}
 use mathlib.Core.Path.{_≡_, refl, sym, _∙_, ap}
-use borrow.Author.Tests.{lt-ltb, le-ltb}
 use lib.ListN.{length}
 use lib.Ieee.{Float}
 use Rattle.answer.specs.declared.Answer.the-variants.{Uninitialised, BadInput, Room}
-use Rattle.samples.specs.Samples.{goodSamples, samplesOf}
-use Rattle.route.specs.Written.{writtenOf}
+use Rattle.samples.specs.Samples.{goodSamples}
 use Rattle.tree.specs.Table.{Nodes, nodesOf}
 use Rattle.tree.specs.declared.Tree.{Tree}
+use Rattle.plan.specs.Plan.{Plan, planFrom, set}
+use Rattle.plan.specs.Setup.{usableOf}
+use Rattle.plan.specs.Solve.{Ended, Outcome, refusedOf, endedOf}
+use Rattle.plan.proofs.Usable.{usable-ready, usable-count}
+use Rattle.plan.proofs.Answers as answers
 use Rattle.rrt.specs.declared.Rrt.{Rrt}
 use Rattle.rrt.specs.declared.Ran.{Ran}
-use Rattle.rrt.specs.Planner.{Planner, Plan, unset, set, usableOf, planOf, plannerOf}
-use Rattle.rrt.specs.Run.{Ended, runOf, planFrom, Runs}
-use Rattle.rrt.specs.Solve.{Outcome, refusedOf, endedOf, solveOf}
-use Rattle.rrt.proofs.Views.{view-set, view-unset, usable-ready, usable-count}
+use Rattle.rrt.specs.Planner.{plannerOf}
+use Rattle.rrt.specs.Run.{Runs}
+use Rattle.rrt.specs.Solve.{needed, runFrom, solveOf}
+use Rattle.rrt.proofs.Views.{view-set, view-unset}
 
 module _ (p : Rrt) (samples route : List Float) where
   pub solve-unset : usableOf (p .ready) (p .tree .count) ≡ false → refusedOf (plannerOf p) Uninitialised route ≡ solveOf (plannerOf p) samples route
   unfolding solveOf
-  solve-unset u = rw (view-unset p u)
+  solve-unset u = answers.solve-unset needed runFrom (plannerOf p) samples route (view-unset p u)
 
   module _ (u : usableOf (p .ready) (p .tree .count) ≡ true) where
-    pub solve-room : length route < 1536 → refusedOf (plannerOf p) Room route ≡ solveOf (plannerOf p) samples route
+    pub solve-room : length route < needed → refusedOf (plannerOf p) Room route ≡ solveOf (plannerOf p) samples route
     unfolding solveOf
-    solve-room h = rw (view-set p u, lt-ltb (length route) 1536 h)
+    solve-room h = answers.solve-room needed runFrom (plannerOf p) samples route _ _ (view-set p u) h
 
-    module _ (h : 1536 ≤ length route) where
+    module _ (h : needed ≤ length route) where
       pub solve-bad : goodSamples samples ≡ false → refusedOf (plannerOf p) BadInput route ≡ solveOf (plannerOf p) samples route
       unfolding solveOf
-      solve-bad g = rw (view-set p u, le-ltb (length route) 1536 h, g)
+      solve-bad g = answers.solve-bad needed runFrom (plannerOf p) samples route _ _ (view-set p u) h g
 
       -- the planner with the tree that has grown
       abbrev with : Tree → Rrt
       with t = record { ready = p .ready; mount = p .mount; «max_distance» = p .«max_distance»; goal = p .goal; tree = t }
 
-      ran : goodSamples samples ≡ true → endedOf (planOf p) (runOf (planOf p) (nodesOf (p .tree)) 0 (samplesOf samples)) route ≡ solveOf (plannerOf p) samples route
-      unfolding solveOf
-      ran g = rw (view-set p u, le-ltb (length route) 1536 h, g)
-
-      same-plan : planFrom (p .mount) (p .«max_distance») (p .goal) ≡ planOf p
-      unfolding planOf
-      same-plan = refl
+      abbrev plan : Plan
+      plan = planFrom (p .mount) (p .«max_distance») (p .goal)
 
       module _ (r : Ran) (new : List Float) (w : Runs (p .mount) (p .«max_distance») (p .goal) (p .tree) samples route r new) where
-        grown : plannerOf (with (r .tree)) ≡ set (planOf p) (w .ended .nodes)
-        unfolding planOf
-        grown = view-set (with (r .tree)) (usable-count (p .ready) (r .tree .count) (usable-ready (p .ready) (p .tree .count) u) (w .some) (w .room)) ∙ ap (set (planOf p)) (w .nodes)
+        abbrev outcome : Outcome Plan Nodes
+        outcome = record { planner = plannerOf (with (r .tree)); answer = r .answer; count = r .count; taken = r .taken; route = new }
 
-        ended : w .ended ≡ runOf (planOf p) (nodesOf (p .tree)) 0 (samplesOf samples)
-        ended = w .is ∙ ap (λ (q : Plan). runOf q (nodesOf (p .tree)) 0 (samplesOf samples)) same-plan
+        grown : plannerOf (with (r .tree)) ≡ set plan (w .ended .tables)
+        grown = view-set (with (r .tree)) (usable-count (p .ready) (r .tree .count) (usable-ready (p .ready) (p .tree .count) u) (w .some) (w .room)) ∙ ap (set plan) (w .nodes)
 
-        whole : record { planner = plannerOf (with (r .tree)); answer = r .answer; count = r .count; taken = r .taken; route = new } ≡ endedOf (planOf p) (w .ended) route
+        whole : outcome ≡ endedOf plan (w .ended) route
         unfolding endedOf
         whole = rw (grown, w .answer, w .count, w .taken, w .memory)
 
-        pub solve-ran :
-            goodSamples samples ≡ true →
-            record { planner = plannerOf (with (r .tree)); answer = r .answer; count = r .count; taken = r .taken; route = new } ≡ solveOf (plannerOf p) samples route
-        solve-ran g = whole ∙ ap (λ (e : Ended). endedOf (planOf p) e route) ended ∙ ran g
+        pub solve-ran : goodSamples samples ≡ true → outcome ≡ solveOf (plannerOf p) samples route
+        unfolding solveOf
+        solve-ran g = whole ∙ ap (λ (e : Ended Nodes). endedOf plan e route) (w .is) ∙ answers.solve-ran needed runFrom (plannerOf p) samples route _ _ (view-set p u) h g

@@ -8,13 +8,11 @@ use mathlib.Core.Path.{_≡_}
 use lib.Dec.{ltb}
 use lib.ListN.{length}
 use lib.Ieee.{Float}
-use Rattle.answer.specs.declared.Answer.{Answer}
 use Rattle.answer.specs.declared.Answer.the-variants.{Done, SamplesEnded, Full}
 use Rattle.state.specs.Satisfied.{satisfiedOf}
 use Rattle.state.specs.declared.State.{State}
 use Rattle.state.specs.declared.Goal.{Goal}
 use Rattle.state.specs.declared.Length.{Length}
-use Rattle.keep_out.specs.Table.{keepOutsOf}
 use Rattle.motion.specs.declared.Mount.{Mount}
 use Rattle.samples.specs.Samples.{samplesOf}
 use Rattle.tree.specs.Table.{Nodes, nodesOf, grownOf}
@@ -23,28 +21,19 @@ use Rattle.tree.specs.declared.Stepped.{Stepped}
 use Rattle.tree.specs.declared.Tree.{Tree}
 use Rattle.route.specs.Path.{pathOf}
 use Rattle.route.specs.Written.{writtenOf}
-use Rattle.rrt.specs.Planner.{Plan}
+use Rattle.plan.specs.Plan.{Plan, planFrom}
+use Rattle.plan.specs.Solve.{Ended, noRoute}
 use Rattle.rrt.specs.declared.Ran.{Ran}
 
--- how a run ended: the tree, the answer, the route (none unless the answer is 0) and the samples taken
-pub record Ended : Type 0 where
-  pub nodes : Nodes
-  pub answer : Answer
-  pub path : List State
-  pub taken : ℕ
-
-abbrev pub noRoute : Nodes → Answer → ℕ → Ended
-noRoute nodes answer taken = record { nodes = nodes; answer = answer; path = []; taken = taken }
-
 -- what follows a step: `refused` and `added` are the runs over the samples that are left
-unfoldable pub afterOf : Goal → Nodes → Nodes → Stepped → ℕ → Ended → Ended → Ended
+unfoldable pub afterOf : Goal → Nodes → Nodes → Stepped → ℕ → Ended Nodes → Ended Nodes → Ended Nodes
 afterOf goal nodes grown e taken refused added =
-    let found : Ended = record { nodes = grown; answer = Done; path = pathOf grown (length (nodes .states)); taken = taken } in
+    let found : Ended Nodes = record { tables = grown; answer = Done; path = pathOf grown (length (nodes .states)); taken = taken } in
     cond (e .accepted)
     (cond (ltb (length (nodes .states)) 512) (cond (satisfiedOf goal (e .at)) found added) (noRoute nodes Full taken))
     refused
 
-unfoldable pub runOf : Plan → Nodes → ℕ → List State → Ended
+unfoldable pub runOf : Plan → Nodes → ℕ → List State → Ended Nodes
 runOf p nodes taken [] = noRoute nodes SamplesEnded taken
 runOf p nodes taken (s ∷ ss) =
     let e = stepOf (p .limits) (p .segment) (p .keepOuts) (p .max) (nodes .states) s in
@@ -53,16 +42,11 @@ runOf p nodes taken (s ∷ ss) =
     let added = runOf p grown (taken + 1) ss in
     afterOf (p .goal) nodes grown e (taken + 1) refused added
 
--- the plan that the code's values make
-abbrev pub planFrom : Mount → Length → Goal → Plan
-planFrom mount max goal =
-    record { limits = mount .limits; segment = mount .segment .value; keepOuts = keepOutsOf (mount .table); max = max .value; goal = goal }
-
 -- what the code's run gives
 pub record Runs (mount : Mount) (max : Length) (goal : Goal) (rooted : Tree) (samples old : List Float) (r : Ran) (new : List Float) : Type 0 where
-  pub ended : Ended
+  pub ended : Ended Nodes
   pub is : ended ≡ runOf (planFrom mount max goal) (nodesOf rooted) 0 (samplesOf samples)
-  pub nodes : nodesOf (r .tree) ≡ ended .nodes
+  pub nodes : nodesOf (r .tree) ≡ ended .tables
   pub answer : r .answer ≡ ended .answer
   pub count : r .count ≡ length (ended .path)
   pub taken : r .taken ≡ ended .taken

@@ -12,7 +12,7 @@ use tree::Tree;
 ghost use mathlib.Core.Path.{_≡_};
 ghost use Prim.Native.Nat.{_≤_, _<_};
 ghost use lib.ListN.{length};
-ghost use Rattle.rrt.specs.Planner.{usableOf, plannerOf, newOf, setupOf, answeredOf, sizeOf, nodeOf};
+ghost use Rattle.rrt.specs.Planner.{plannerOf, newOf, setupOf, answeredOf, sizeOf, nodeOf};
 ghost use Rattle.rrt.specs.Run.{Runs};
 ghost use Rattle.rrt.specs.Solve.{solvedOf, solveOf};
 
@@ -45,18 +45,6 @@ struct Ran {
     answer: Answer,
     count: usize,
     taken: usize,
-}
-
-// Whether a setup was accepted, and left a tree that a setup can leave.
-fn usable(ready: bool, count: usize) -> bool
-    ensures { λ r. ⌜ r ≡ usableOf ready count ⌝ }
-{
-    if ready {
-        if 0 < count {
-            return count <= Tree::MOST;
-        }
-    }
-    false
 }
 
 // Each sample in turn makes one tree step; an accepted state is appended under the nearest node, and then tested against the goal.
@@ -192,27 +180,22 @@ impl Rrt {
             segment,
             table,
         };
-        if mount.is_good() {
-            if max_distance.is_good() {
-                if start.is_good() {
-                    if goal.is_good() {
-                        let planner = Rrt {
-                            ready: true,
-                            mount,
-                            max_distance,
-                            goal,
-                            tree: Tree::rooted(start),
-                        };
-                        return Answered {
-                            planner,
-                            answer: Answer::Done,
-                        };
-                    }
-                }
-            }
+        if plan::is_good(mount, max_distance, start, goal) {
+            let planner = Rrt {
+                ready: true,
+                mount,
+                max_distance,
+                goal,
+                tree: Tree::rooted(start),
+            };
+            return Answered {
+                planner,
+                answer: Answer::Done,
+            };
         }
+        let kept = self;
         Answered {
-            planner: self,
+            planner: kept,
             answer: Answer::BadInput,
         }
     }
@@ -222,7 +205,8 @@ impl Rrt {
         ensures { λ r. ⌜ solvedOf r (now (route .exit)) ≡ solveOf (plannerOf self) (now (samples .entry)) (now (route .entry)) ⌝ }
     {
         let tree = self.tree;
-        if usable(self.ready, tree.count) {
+        let good = samples::are_good(samples);
+        if plan::is_usable(self.ready, tree.count) {
             if route.len() < Rrt::ROUTE {
                 return Solved {
                     planner: self,
@@ -231,7 +215,7 @@ impl Rrt {
                     taken: 0,
                 };
             }
-            if samples::are_good(samples) {
+            if good {
                 let ran = run(
                     self.mount,
                     self.max_distance,
@@ -251,6 +235,7 @@ impl Rrt {
                     taken: ran.taken,
                 };
             }
+            // A list that is not good: all is kept.
             return Solved {
                 planner: self,
                 answer: Answer::BadInput,
@@ -271,7 +256,7 @@ impl Rrt {
         ensures { λ r. ⌜ r ≡ sizeOf (plannerOf self) ⌝ }
     {
         let n = self.tree.count;
-        if usable(self.ready, n) { n } else { 0 }
+        if plan::is_usable(self.ready, n) { n } else { 0 }
     }
 
     pub fn node(self, i: usize) -> NodeAt
@@ -279,7 +264,7 @@ impl Rrt {
     {
         let tree = self.tree;
         let n = tree.count;
-        if usable(self.ready, n) {
+        if plan::is_usable(self.ready, n) {
             return tree::node_at(&tree.az, &tree.el, &tree.feed, &tree.parent, n, i);
         }
         NodeAt::Nothing

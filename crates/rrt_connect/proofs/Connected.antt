@@ -10,35 +10,42 @@ use Rattle.keep_out.specs.declared.KeepOut.{KeepOut}
 use Rattle.tree.specs.Table.{Nodes}
 use Rattle.extend.specs.Extend.{Extends}
 use Rattle.extend.specs.declared.Extended.{Extended}
+use Rattle.extend.specs.declared.Verdict.{Verdict}
 use Rattle.extend.specs.declared.Verdict.the-variants as verdict
 use Rattle.rrt_connect.specs.declared.turn.Ends.{Ends}
 use Rattle.rrt_connect.specs.declared.turn.Ends.the-variants as ends
 use Rattle.rrt_connect.specs.Turn.{connectEnds, Connects}
 
-module _ (limits : Limits) (segment : Float) (ks : List KeepOut) (max : Float) (other : Nodes) (s : State) (growing : ℕ) (f : Extended)
-    (az el feed : List Float) (parent : List ℕ) (w : Extends limits segment ks max other s f az el feed parent) where
-  connects : (v : Ends) → v ≡ connectEnds (f .verdict) (f .reached) → Connects limits segment ks max other s growing (record { ends = v; growing = growing; other = f .count }) az el feed parent
-  connects v e =
-      record {
-        grown = w .grown;
-        is = w .is;
-        tree = w .tree;
-        ends = e ∙ ap (λ x. connectEnds x (f .reached)) (w .verdict) ∙ ap (connectEnds (w .grown .verdict)) (w .reached);
-        growing-kept = refl;
-        some = w .some;
-        room = w .room;
-        sized = w .sized;
-      }
+-- what each verdict leads to
+module _ (v : Verdict) (reached : Bool) where
+  pub ends-refused : v ≡ verdict.Refused → ends.GoesOn ≡ connectEnds v reached
+  unfolding connectEnds
+  ends-refused e = rw e
 
-  pub other-refused : f .verdict ≡ verdict.Refused → Connects limits segment ks max other s growing (record { ends = ends.GoesOn; growing = growing; other = f .count }) az el feed parent
-  other-refused e = connects ends.GoesOn (unfold connectEnds in rw e)
+  pub ends-full : v ≡ verdict.Full → ends.Full ≡ connectEnds v reached
+  unfolding connectEnds
+  ends-full e = rw e
 
-  pub other-full : f .verdict ≡ verdict.Full → Connects limits segment ks max other s growing (record { ends = ends.Full; growing = growing; other = f .count }) az el feed parent
-  other-full e = connects ends.Full (unfold connectEnds in rw e)
+  pub ends-joined : v ≡ verdict.Added → reached ≡ true → ends.Joined ≡ connectEnds v reached
+  unfolding connectEnds
+  ends-joined e r = rw (e, r)
 
-  module _ (e : f .verdict ≡ verdict.Added) where
-    pub other-joined : f .reached ≡ true → Connects limits segment ks max other s growing (record { ends = ends.Joined; growing = growing; other = f .count }) az el feed parent
-    other-joined r = connects ends.Joined (unfold connectEnds in rw (e, r))
+  pub ends-short : v ≡ verdict.Added → reached ≡ false → ends.GoesOn ≡ connectEnds v reached
+  unfolding connectEnds
+  ends-short e r = rw (e, r)
 
-    pub other-short : f .reached ≡ false → Connects limits segment ks max other s growing (record { ends = ends.GoesOn; growing = growing; other = f .count }) az el feed parent
-    other-short r = connects ends.GoesOn (unfold connectEnds in rw (e, r))
+pub connects :
+    (limits : Limits) (segment : Float) (ks : List KeepOut) (max : Float) (other : Nodes) (s : State) (growing : ℕ) (f : Extended) (az el feed : List Float) (parent : List ℕ) →
+    Extends limits segment ks max other s f az el feed parent → (v : Ends) → v ≡ connectEnds (f .verdict) (f .reached) →
+    Connects limits segment ks max other s growing (record { ends = v; growing = growing; other = f .count }) az el feed parent
+connects limits segment ks max other s growing f az el feed parent w v e =
+    record {
+      grown = w .grown;
+      is = w .is;
+      tree = w .tree;
+      ends = e ∙ ap (λ x. connectEnds x (f .reached)) (w .verdict) ∙ ap (connectEnds (w .grown .verdict)) (w .reached);
+      growing-kept = refl;
+      some = w .some;
+      room = w .room;
+      sized = w .sized;
+    }

@@ -12,7 +12,7 @@ use Rattle.route.specs.Path.{pathOf, upwardsOf}
 use Rattle.route.specs.Written.{flatOf, writtenOf, Wrote, Appended}
 use Rattle.route.proofs.Stores.{nothing-written}
 use Rattle.route.proofs.Upwards.{written-on}
-use Rattle.rrt.specs.Planner.{Plan}
+use Rattle.plan.specs.Plan.{Plan}
 use Rattle.rrt_connect.specs.declared.turn.Ends.{Ends}
 use Rattle.rrt_connect.specs.declared.turn.Ends.the-variants.{GoesOn, Full, Goal, Joined}
 use Rattle.rrt_connect.specs.Turn.{Columns}

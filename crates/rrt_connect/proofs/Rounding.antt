@@ -11,7 +11,7 @@ use Rattle.state.specs.declared.State.{State}
 use Rattle.tree.specs.Table.{Nodes, nodesIn, nodesOf, grownOf, rootOf, statesOf, rowsOf}
 use Rattle.tree.proofs.Append.{states-most, put-grows}
 use Rattle.extend.specs.Extend.{Sized}
-use Rattle.rrt.specs.Planner.{Plan}
+use Rattle.plan.specs.Plan.{Plan}
 use Rattle.rrt_connect.specs.declared.turn.Ends.the-variants.{GoesOn}
 use Rattle.rrt_connect.specs.declared.turn.Turned.{Turned}
 use Rattle.rrt_connect.specs.declared.round.Rounded.{Rounded}

@@ -9,16 +9,17 @@ use Rattle.state.specs.declared.State.{State}
 use Rattle.samples.specs.Samples.{samplesOf}
 use Rattle.samples.proofs.Threes.{three}
 use Rattle.tree.specs.Table.{Nodes, nodesIn}
-use Rattle.rrt.specs.Planner.{Plan}
+use Rattle.plan.specs.Plan.{Plan}
 use Rattle.rrt_connect.specs.declared.turn.Ends.{Ends}
 use Rattle.rrt_connect.specs.declared.round.Rounded.{Rounded}
 use Rattle.rrt_connect.specs.Turn.{Columns}
 use Rattle.rrt_connect.specs.Round.{Trees, Round, roundOf, treesAt, Rounds}
 use Rattle.rrt_connect.specs.Ending.{goesOnOf, answerOf, endPath}
-use Rattle.rrt_connect.specs.Run.{Ended, afterOf, runOf}
+use Rattle.plan.specs.Solve.{Ended}
+use Rattle.rrt_connect.specs.Run.{afterOf, runOf}
 
-abbrev endedAt : Ends → Trees → ℕ → Ended
-endedAt e t taken = record { trees = t; answer = answerOf e; path = endPath e t; taken = taken }
+abbrev endedAt : Ends → Trees → ℕ → Ended Trees
+endedAt e t taken = record { tables = t; answer = answerOf e; path = endPath e t; taken = taken }
 
 module _ (p : Plan) (trees : Trees) (taken : ℕ) (s : State) (ss : List State) (r : Round) (is : r ≡ roundOf p trees s) where
   run-on : goesOnOf (r .ends) ≡ true → runOf p trees taken (s ∷ ss) ≡ runOf p (r .trees) (taken + 1) ss
@@ -34,7 +35,7 @@ module _ (p : Plan) (trees : Trees) (taken : ℕ) (s : State) (ss : List State) 
 module _ (p : Plan) (trees₀ : Trees) (n m : ℕ) (c d : Columns) (taken : ℕ) (l : List Float) (at : ℕ) (here : at + 3 ≤ length l)
     (inv : runOf p trees₀ 0 (samplesOf l) ≡ runOf p (treesAt n c m d) taken (samplesOf (drop at l))) (r : Rounded) (c' d' : Columns)
     (w : Rounds p (treesAt n c m d) (record { az = getD l at nan; el = getD l (at + 1) nan; feed = getD l (at + 2) nan }) r c' d') where
-  abbrev whole : Ended
+  abbrev whole : Ended Trees
   whole = runOf p trees₀ 0 (samplesOf l)
 
   abbrev sample : State

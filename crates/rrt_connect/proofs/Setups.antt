@@ -1,51 +1,48 @@
--- A setup's answer. Its tests are RRT's (`rrt`, proofs/Setups.antt).
-use mathlib.Core.Bool.{true, false}
+-- A setup's answer from its test.
+use mathlib.Core.Bool.{Bool, true, false}
 use mathlib.Core.Path.{_≡_, refl, sym, _∙_, ap, ap₂}
 use Rattle.answer.specs.declared.Answer.the-variants.{Done, BadInput}
 use Rattle.state.specs.declared.State.{State}
 use Rattle.state.specs.declared.Limits.{Limits}
 use Rattle.state.specs.declared.Length.{Length}
 use Rattle.state.specs.declared.Goal.{Goal}
-use Rattle.keep_out.specs.Table.{keepOutsOf}
 use Rattle.keep_out.specs.declared.KeepOuts.{KeepOuts}
-use Rattle.tree.specs.Table.{Nodes, nodesOf, rootOf, rootedOf, noNodes, noneOf}
+use Rattle.motion.specs.declared.Mount.{Mount}
+use Rattle.tree.specs.Table.{Nodes, rootOf, rootedOf, noNodes, noneOf}
 use Rattle.tree.specs.declared.Tree.{Tree}
 use Rattle.tree.proofs.Append.{rooted-is, none-is}
-use Rattle.rrt.specs.Planner.{Plan, goodSetup}
+use Rattle.plan.specs.Plan.{planFrom, set}
+use Rattle.plan.specs.Setup as setup
+use Rattle.plan.specs.Setup.{goodSetup}
+use Rattle.plan.proofs.Answers as answers
 use Rattle.rrt_connect.specs.declared.RrtConnect.{RrtConnect}
-use Rattle.rrt_connect.specs.Round.{Trees}
-use Rattle.rrt_connect.specs.Planner.{Planner, set, usableOf, planOf, treesOf, plannerOf, setupOf}
+use Rattle.rrt_connect.specs.Planner.{View, usableOf, treesOf, plannerOf, setupOf}
 use Rattle.rrt_connect.proofs.Views.{view-set}
 
-module _ (limits : Limits) (segment max : Length) (start : State) (goal : Goal) (table : KeepOuts) where
-  abbrev made : Tree → Tree → RrtConnect
-  made a b =
-      record {
-        ready = true;
-        mount = record { limits = limits; segment = segment; table = table };
-        «max_distance» = max;
-        goal = goal;
-        «start_tree» = a;
-        «goal_tree» = b;
-      }
+module _ (planner : View) (limits : Limits) (segment max : Length) (start : State) (goal : Goal) (table : KeepOuts) where
+  abbrev mount : Mount
+  mount = record { limits = limits; segment = segment; table = table }
 
-  rooted-usable : usableOf true (rootedOf start .count) (noneOf .count) ≡ true
-  unfolding usableOf rootedOf noneOf
-  rooted-usable = refl
+  module _ (good : Bool) (is : good ≡ goodSetup mount max start goal) where
+    pub setup-refused : good ≡ false → record { planner = planner; answer = BadInput } ≡ setupOf planner limits segment max start goal table
+    unfolding setupOf
+    setup-refused e = answers.setup-refused planner _ _ _ (sym is ∙ e)
 
-  abbrev plan : Plan
-  plan = record { limits = limits; segment = segment .value; keepOuts = keepOutsOf table; max = max .value; goal = goal }
+    module _ (yes : good ≡ true) (a b : Tree) (rooted : a ≡ rootedOf start) (empty : b ≡ noneOf) where
+      -- the planner that is answered
+      abbrev made : Tree → Tree → RrtConnect
+      made s t = record { ready = true; mount = mount; «max_distance» = max; goal = goal; «start_tree» = s; «goal_tree» = t }
 
-  rooted-view : plannerOf (made (rootedOf start) noneOf) ≡ set plan (record { start = rootOf start; goal = noNodes })
-  unfolding planOf treesOf
-  rooted-view = view-set (made (rootedOf start) noneOf) rooted-usable ∙ ap₂ (λ (x y : Nodes). set plan (record { start = x; goal = y })) (rooted-is start) none-is
+      rooted-usable : usableOf true (rootedOf start .count) (noneOf .count) ≡ true
+      unfolding usableOf setup.usableOf rootedOf noneOf
+      rooted-usable = refl
 
-  pub setup-refused : (planner : Planner) → goodSetup limits segment max start goal table ≡ false → record { planner = planner; answer = BadInput } ≡ setupOf planner limits segment max start goal table
-  unfolding setupOf
-  setup-refused planner e = rw e
+      made-view : plannerOf (made a b) ≡ set (planFrom mount max goal) (record { start = rootOf start; goal = noNodes })
+      unfolding treesOf
+      made-view =
+          ap₂ (λ (s t : Tree). plannerOf (made s t)) rooted empty ∙ view-set (made (rootedOf start) noneOf) rooted-usable
+          ∙ ap₂ (λ (x y : Nodes). set (planFrom mount max goal) (record { start = x; goal = y })) (rooted-is start) none-is
 
-  pub setup-done :
-      (planner : Planner) (a b : Tree) → a ≡ rootedOf start → b ≡ noneOf → goodSetup limits segment max start goal table ≡ true →
-      record { planner = plannerOf (made a b); answer = Done } ≡ setupOf planner limits segment max start goal table
-  unfolding setupOf
-  setup-done planner a b is is' e = rw (is, is', rooted-view, e)
+      pub setup-done : record { planner = plannerOf (made a b); answer = Done } ≡ setupOf planner limits segment max start goal table
+      unfolding setupOf
+      setup-done = answers.setup-done planner _ _ _ (sym is ∙ yes) _ made-view

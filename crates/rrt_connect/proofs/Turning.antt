@@ -10,7 +10,7 @@ use Rattle.tree.specs.Table.{Nodes}
 use Rattle.extend.specs.Extend.{Grown, extendOf, Extends}
 use Rattle.extend.specs.declared.Extended.{Extended}
 use Rattle.extend.specs.declared.Verdict.the-variants as verdict
-use Rattle.rrt.specs.Planner.{Plan}
+use Rattle.plan.specs.Plan.{Plan}
 use Rattle.rrt_connect.specs.declared.turn.Ends.{Ends}
 use Rattle.rrt_connect.specs.declared.turn.Ends.the-variants as ends
 use Rattle.rrt_connect.specs.declared.turn.Turned.{Turned}

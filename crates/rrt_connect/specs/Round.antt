@@ -8,7 +8,7 @@ use lib.Dec.{eqb, leb}
 use lib.ListN.{length}
 use Rattle.state.specs.declared.State.{State}
 use Rattle.tree.specs.Table.{Nodes, nodesIn, rootOf}
-use Rattle.rrt.specs.Planner.{Plan}
+use Rattle.plan.specs.Plan.{Plan}
 use Rattle.rrt_connect.specs.declared.turn.Ends.{Ends}
 use Rattle.rrt_connect.specs.declared.turn.Ends.the-variants.{GoesOn}
 use Rattle.rrt_connect.specs.declared.round.Rounded.{Rounded}

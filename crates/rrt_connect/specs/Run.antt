@@ -6,7 +6,6 @@ use mathlib.Core.List.{List, [], _∷_}
 use mathlib.Core.Path.{_≡_}
 use lib.ListN.{length}
 use lib.Ieee.{Float}
-use Rattle.answer.specs.declared.Answer.{Answer}
 use Rattle.answer.specs.declared.Answer.the-variants.{SamplesEnded}
 use Rattle.state.specs.declared.State.{State}
 use Rattle.state.specs.declared.Goal.{Goal}
@@ -16,27 +15,20 @@ use Rattle.samples.specs.Samples.{samplesOf}
 use Rattle.tree.specs.Table.{nodesOf}
 use Rattle.tree.specs.declared.Tree.{Tree}
 use Rattle.route.specs.Written.{writtenOf}
-use Rattle.rrt.specs.Planner.{Plan}
-use Rattle.rrt.specs.Run.{planFrom}
+use Rattle.plan.specs.Plan.{Plan, planFrom}
+use Rattle.plan.specs.Solve.{Ended, noRoute}
 use Rattle.rrt_connect.specs.Round.{Trees, Round, roundOf}
 use Rattle.rrt_connect.specs.Ending.{goesOnOf, answerOf, endPath}
-use Rattle.rrt_connect.specs.declared.Ran.{Ran}
-
--- how a run ended: the trees, the answer, the route (none unless the answer is 0) and the samples taken
-pub record Ended : Type 0 where
-  pub trees : Trees
-  pub answer : Answer
-  pub path : List State
-  pub taken : ℕ
+use Rattle.rrt_connect.specs.declared.run.Ran.{Ran}
 
 -- what a round leads to: `later` is the run over the samples that are left
-unfoldable pub afterOf : Round → ℕ → Ended → Ended
+unfoldable pub afterOf : Round → ℕ → Ended Trees → Ended Trees
 afterOf r taken later =
-    let here : Ended = record { trees = r .trees; answer = answerOf (r .ends); path = endPath (r .ends) (r .trees); taken = taken } in
+    let here : Ended Trees = record { tables = r .trees; answer = answerOf (r .ends); path = endPath (r .ends) (r .trees); taken = taken } in
     cond (goesOnOf (r .ends)) later here
 
-unfoldable pub runOf : Plan → Trees → ℕ → List State → Ended
-runOf p trees taken [] = record { trees = trees; answer = SamplesEnded; path = []; taken = taken }
+unfoldable pub runOf : Plan → Trees → ℕ → List State → Ended Trees
+runOf p trees taken [] = noRoute trees SamplesEnded taken
 runOf p trees taken (s ∷ ss) =
     let r = roundOf p trees s in
     let later = runOf p (r .trees) (taken + 1) ss in
@@ -44,10 +36,10 @@ runOf p trees taken (s ∷ ss) =
 
 -- what the code's run gives
 pub record Runs (mount : Mount) (max : Length) (target : Goal) (start goal : Tree) (samples old : List Float) (r : Ran) (new : List Float) : Type 0 where
-  pub ended : Ended
+  pub ended : Ended Trees
   pub is : ended ≡ runOf (planFrom mount max target) (record { start = nodesOf start; goal = nodesOf goal }) 0 (samplesOf samples)
-  pub start-tree : nodesOf (r .start) ≡ ended .trees .start
-  pub goal-tree : nodesOf (r .goal) ≡ ended .trees .goal
+  pub start-tree : nodesOf (r .start) ≡ ended .tables .start
+  pub goal-tree : nodesOf (r .goal) ≡ ended .tables .goal
   pub answer : r .answer ≡ ended .answer
   pub count : r .count ≡ length (ended .path)
   pub taken : r .taken ≡ ended .taken

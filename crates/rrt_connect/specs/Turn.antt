@@ -17,7 +17,7 @@ use Rattle.tree.specs.Table.{Nodes, nodesIn, rootOf}
 use Rattle.extend.specs.Extend.{Grown, extendOf, Sized}
 use Rattle.extend.specs.declared.Verdict.{Verdict}
 use Rattle.extend.specs.declared.Verdict.the-variants as verdict
-use Rattle.rrt.specs.Planner.{Plan}
+use Rattle.plan.specs.Plan.{Plan}
 use Rattle.rrt_connect.specs.declared.turn.Ends.{Ends}
 use Rattle.rrt_connect.specs.declared.turn.Ends.the-variants as ends
 use Rattle.rrt_connect.specs.declared.turn.Turned.{Turned}

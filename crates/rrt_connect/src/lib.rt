@@ -1,7 +1,6 @@
 // RRT-Connect (document 01, "RRT-Connect" and "Sizes and answers"): two trees, from the start and from the first sample, that grow
 // toward each other.
 use answer::Answer;
-use columns::Columns;
 use keep_out::KeepOuts;
 use motion::Mount;
 use state::Goal;
@@ -11,14 +10,12 @@ use state::State;
 use tree::NodeAt;
 use tree::Tree;
 ghost use mathlib.Core.Path.{_≡_};
-ghost use Prim.Native.Nat.{_≤_, _<_};
-ghost use lib.ListN.{length};
 ghost use Rattle.rrt_connect.specs.Planner.{usableOf, plannerOf, newOf, setupOf, answeredOf, startSizeOf, goalSizeOf, startNodeOf, goalNodeOf};
-ghost use Rattle.rrt_connect.specs.Run.{Runs};
 ghost use Rattle.rrt_connect.specs.Solve.{solvedOf, solveOf};
 
 mod ending;
 mod round;
+mod run;
 mod turn;
 
 // What an accepted setup gave, and the trees that have grown since.
@@ -45,145 +42,14 @@ pub struct Solved {
     pub taken: usize,
 }
 
-// How a run over the samples ended.
-struct Ran {
-    start: Tree,
-    goal: Tree,
-    answer: Answer,
-    count: usize,
-    taken: usize,
-}
-
 // Whether a setup was accepted, and left trees that a setup can leave.
 fn usable(ready: bool, start: usize, goal: usize) -> bool
     ensures { λ r. ⌜ r ≡ usableOf ready start goal ⌝ }
 {
-    if ready {
-        if 0 < start {
-            if start <= Tree::MOST {
-                return goal <= Tree::MOST;
-            }
-        }
+    if plan::is_usable(ready, start) {
+        return goal <= Tree::MOST;
     }
     false
-}
-
-// Each sample in turn, until one ends the run.
-fn run(
-    mount: Mount,
-    max: Length,
-    target: Goal,
-    start: Tree,
-    goal: Tree,
-    samples: &[f64],
-    route: &mut [f64],
-) -> Ran
-    requires { ⌜ (0 < start .count) × (start .count ≤ 512) × (goal .count ≤ 512) × (3069 ≤ length (now route)) ⌝ }
-    ensures { λ r. ⌜ Runs mount max target start goal (now (samples .entry)) (now (route .entry)) r (now (route .exit)) ⌝ }
-{
-    let limits = mount.limits;
-    let segment = mount.segment.value;
-    let columns = Columns::of(mount.table);
-    let rows = columns.count;
-    let mut az = start.az;
-    let mut el = start.el;
-    let mut feed = start.feed;
-    let mut parent = start.parent;
-    let mut n = start.count;
-    let mut goal_az = goal.az;
-    let mut goal_el = goal.el;
-    let mut goal_feed = goal.feed;
-    let mut goal_parent = goal.parent;
-    let mut m = goal.count;
-    let mut at: usize = 0;
-    let mut taken: usize = 0;
-    'samples: while samples.len() - at >= 3 {
-        let sample = State {
-            az: samples[at],
-            el: samples[at + 1],
-            feed: samples[at + 2],
-        };
-        let r = round::round(
-            &mut az,
-            &mut el,
-            &mut feed,
-            &mut parent,
-            n,
-            &mut goal_az,
-            &mut goal_el,
-            &mut goal_feed,
-            &mut goal_parent,
-            m,
-            target,
-            limits,
-            segment,
-            &columns.kinds,
-            &columns.numbers,
-            rows,
-            max.value,
-            sample,
-        );
-        n = r.start;
-        m = r.goal;
-        taken += 1;
-        let ends = r.ends;
-        if ending::goes_on(ends) {
-            at += 3;
-        } else {
-            let count = ending::write(
-                ends,
-                &az,
-                &el,
-                &feed,
-                &parent,
-                n,
-                &goal_az,
-                &goal_el,
-                &goal_feed,
-                &goal_parent,
-                m,
-                route,
-            );
-            return Ran {
-                start: Tree {
-                    az,
-                    el,
-                    feed,
-                    parent,
-                    count: n,
-                },
-                goal: Tree {
-                    az: goal_az,
-                    el: goal_el,
-                    feed: goal_feed,
-                    parent: goal_parent,
-                    count: m,
-                },
-                answer: ending::answer_of(ends),
-                count,
-                taken,
-            };
-        }
-    }
-    Ran {
-        start: Tree {
-            az,
-            el,
-            feed,
-            parent,
-            count: n,
-        },
-        goal: Tree {
-            az: goal_az,
-            el: goal_el,
-            feed: goal_feed,
-            parent: goal_parent,
-            count: m,
-        },
-        answer: Answer::SamplesEnded,
-        count: 0,
-        taken,
-    }
 }
 
 impl RrtConnect {
@@ -236,28 +102,23 @@ impl RrtConnect {
             segment,
             table,
         };
-        if mount.is_good() {
-            if max_distance.is_good() {
-                if start.is_good() {
-                    if goal.is_good() {
-                        let planner = RrtConnect {
-                            ready: true,
-                            mount,
-                            max_distance,
-                            goal,
-                            start_tree: Tree::rooted(start),
-                            goal_tree: Tree::none(),
-                        };
-                        return Answered {
-                            planner,
-                            answer: Answer::Done,
-                        };
-                    }
-                }
-            }
+        if plan::is_good(mount, max_distance, start, goal) {
+            let planner = RrtConnect {
+                ready: true,
+                mount,
+                max_distance,
+                goal,
+                start_tree: Tree::rooted(start),
+                goal_tree: Tree::none(),
+            };
+            return Answered {
+                planner,
+                answer: Answer::Done,
+            };
         }
+        let kept = self;
         Answered {
-            planner: self,
+            planner: kept,
             answer: Answer::BadInput,
         }
     }
@@ -268,6 +129,7 @@ impl RrtConnect {
     {
         let start = self.start_tree;
         let goal = self.goal_tree;
+        let good = samples::are_good(samples);
         if usable(self.ready, start.count, goal.count) {
             if route.len() < RrtConnect::ROUTE {
                 return Solved {
@@ -277,8 +139,8 @@ impl RrtConnect {
                     taken: 0,
                 };
             }
-            if samples::are_good(samples) {
-                let ran = run(
+            if good {
+                let ran = run::run(
                     self.mount,
                     self.max_distance,
                     self.goal,
@@ -300,6 +162,7 @@ impl RrtConnect {
                     taken: ran.taken,
                 };
             }
+            // A list that is not good: all is kept.
             return Solved {
                 planner: self,
                 answer: Answer::BadInput,

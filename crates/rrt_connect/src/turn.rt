@@ -3,11 +3,12 @@ use extend::Verdict;
 use state::Goal;
 use state::Limits;
 use state::State;
+ghost use mathlib.Core.Path.{_≡_};
 ghost use Prim.Native.Nat.{_≤_, _<_};
 ghost use Rattle.columns.specs.Columns.{columnsOf};
 ghost use Rattle.tree.specs.Table.{nodesIn};
 ghost use Rattle.extend.specs.Extend.{Sized};
-ghost use Rattle.rrt_connect.specs.Turn.{Connects, planWith, columnsAt, Turns};
+ghost use Rattle.rrt_connect.specs.Turn.{connectEnds, Connects, planWith, columnsAt, Turns};
 
 // What a sample led to.
 pub enum Ends {
@@ -25,6 +26,22 @@ pub struct Turned {
     pub ends: Ends,
     pub growing: usize,
     pub other: usize,
+}
+
+// What the other tree's step leads to.
+fn connect_ends(verdict: Verdict, reached: bool) -> Ends
+    ensures { λ r. ⌜ r ≡ connectEnds verdict reached ⌝ }
+{
+    match verdict {
+        Verdict::Refused => Ends::GoesOn,
+        Verdict::Full => Ends::Full,
+        Verdict::Added => {
+            if reached {
+                return Ends::Joined;
+            }
+            Ends::GoesOn
+        }
+    }
 }
 
 // The other tree makes one step toward the growing tree's new state.
@@ -60,33 +77,12 @@ fn connected<'a>(
         max_distance,
         s,
     );
-    let other = f.count;
     let verdict = f.verdict;
-    match verdict {
-        Verdict::Refused => Turned {
-            ends: Ends::GoesOn,
-            growing,
-            other,
-        },
-        Verdict::Full => Turned {
-            ends: Ends::Full,
-            growing,
-            other,
-        },
-        Verdict::Added => {
-            if f.reached {
-                return Turned {
-                    ends: Ends::Joined,
-                    growing,
-                    other,
-                };
-            }
-            Turned {
-                ends: Ends::GoesOn,
-                growing,
-                other,
-            }
-        }
+    let ends = connect_ends(verdict, f.reached);
+    Turned {
+        ends,
+        growing,
+        other: f.count,
     }
 }
 
@@ -130,17 +126,16 @@ pub fn turn<'a>(
         max_distance,
         sample,
     );
-    let growing = e.count;
     let verdict = e.verdict;
     match verdict {
         Verdict::Refused => Turned {
             ends: Ends::GoesOn,
-            growing,
+            growing: e.count,
             other: m,
         },
         Verdict::Full => Turned {
             ends: Ends::Full,
-            growing,
+            growing: e.count,
             other: m,
         },
         Verdict::Added => {
@@ -149,7 +144,7 @@ pub fn turn<'a>(
                 if goal.is_satisfied(s) {
                     return Turned {
                         ends: Ends::Goal,
-                        growing,
+                        growing: e.count,
                         other: m,
                     };
                 }
@@ -166,7 +161,7 @@ pub fn turn<'a>(
                 numbers,
                 keep_outs,
                 max_distance,
-                growing,
+                e.count,
                 s,
             )
         }

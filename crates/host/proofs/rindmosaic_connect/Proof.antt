@@ -1,88 +1,90 @@
-use mathlib.Core.Path.{_≡_, _∙_}
-use Rattle.host.proofs.ConnectCalls.{call-refused, call-solved}
+-- `host::rindmosaic_connect` meets its contract.
+use mathlib.Core.Path.{_≡_, sym}
+use denote.Ref.{now}
 use borrow.Author.Needs.{needs}
+use Rattle.rrt_connect.specs.Planner.{answeredOf}
+use Rattle.rrt_connect.specs.Solve.{solvedOf, solveOf}
+use Rattle.host.specs.Call.{connectTold, connectCall}
+use Rattle.host.proofs.Calls.{call-unknown, call-refused, call-solved}
 use Rattle.host.proofs.rindmosaic_connect.Statement.{statement}
 use Rattle.host.proofs.rindmosaic_connect.Tie as tie
-use Rattle.host.proofs.rindmosaic_connect.Reads as reads
-use Rattle.host.proofs.rindmosaic_connect.Lts as lts
-use Rattle.answer.proofs.Answer.number.Reads as number-reads
-use Rattle.host.proofs.goal_in.Reads as goal-in-reads
-use Rattle.host.proofs.limits_in.Reads as limits-in-reads
-use Rattle.host.proofs.start_in.Reads as start-in-reads
-use Rattle.host.proofs.table_of.Reads as table-of-reads
-use Rattle.rrt_connect.proofs.RrtConnect.new.Reads as new-reads
-use Rattle.rrt_connect.proofs.RrtConnect.setup.Reads as setup-reads
-use Rattle.rrt_connect.proofs.RrtConnect.solve.Reads as solve-reads
 
--- src/lib.rt:133:9
 limits-in-requires : tie.Need-limits-in-requires
 limits-in-requires c κs = search needs
 
--- src/lib.rt:134:9
 start-in-requires : tie.Need-start-in-requires
 start-in-requires c κs = search needs
 
--- src/lib.rt:135:9
 goal-in-requires : tie.Need-goal-in-requires
 goal-in-requires c κs = search needs
 
--- src/lib.rt:136:9
 table-of-requires : tie.Need-table-of-requires
 table-of-requires c κs = search needs
 
--- src/lib.rt:137:35
 element-copy-out-t20 : tie.Need-element-copy-out-t20
 element-copy-out-t20 c = search needs
 
--- src/lib.rt:138:40
 element-copy-out-t20-2 : tie.Need-element-copy-out-t20-2
 element-copy-out-t20-2 c = search needs
 
--- src/lib.rt:139:16
+are-known-requires : tie.Need-are-known-requires
+are-known-requires c κs = search needs
+
 new-requires : tie.Need-new-requires
 new-requires c κs = search needs
 
--- src/lib.rt:139:9
 setup-requires : tie.Need-setup-requires
 setup-requires c κs = search needs
 
--- src/lib.rt:141:9
 number-requires : tie.Need-number-requires
 number-requires c κs = search needs
 
--- src/lib.rt:143:13
 solve-requires : tie.Need-solve-requires
 solve-requires c κs = search needs
 
--- src/lib.rt:146:21
 number-requires-2 : tie.Need-number-requires-2
 number-requires-2 c κs = search needs
 
--- src/lib.rt:145:9
 same-length : tie.Need-same-length
 same-length c = search needs
 
--- src/lib.rt:145:9
 returns : tie.Need-returns
+unfolding connectCall
 returns c =
     let solve = c .before .before .before in
     let number = solve .before .before .before in
     let made = number .before in
-    let table = made .before .before .before .before in
+    let known = made .before .before .before in
+    let table = known .before .before .before in
     let goal = table .before in
     let is = rw (goal .goal-in .ensures, goal .before .start-in .ensures, goal .before .before .limits-in .ensures) at (made .setup .ensures) in
-    call-solved _ _ _ _ _ _ _ (table .table-of .ensures) _ (made .before .new .ensures) (made .setup .result) is _ (number .number .ensures)
-    (solve .before .before .if1 .taken) (solve .solve .result) _ (solve .solve .ensures) _ (c .number2 .ensures)
+    call-solved solveOf (connectTold (now (goal .before .before .before .before .before .args .setup))) _ _ _ _ _ _ (table .table-of .ensures) _ (known .are-known .ensures) (made .before .before .if1 .taken) _ (made .before .new .ensures)
+    (answeredOf (made .setup .result)) is _ (number .number .ensures) (solve .before .before .if2 .taken) (solvedOf (solve .solve .result) _) (solve .solve .ensures) _ (c .number2 .ensures)
 
--- src/lib.rt:122:1
+refused-requires : tie.Need-refused-requires
+refused-requires c κs = search needs
+
 returns-2 : tie.Need-returns-2
+unfolding connectCall
 returns-2 c =
-    let number = c .before in
+    let number = c .before .before in
     let made = number .before in
-    let table = made .before .before .before .before in
+    let known = made .before .before .before in
+    let table = known .before .before .before in
     let goal = table .before in
     let is = rw (goal .goal-in .ensures, goal .before .start-in .ensures, goal .before .before .limits-in .ensures) at (made .setup .ensures) in
-    call-refused _ _ _ _ _ _ _ (table .table-of .ensures) _ (made .before .new .ensures) (made .setup .result) is _ (number .number .ensures) (c .if1 .left)
+    call-refused solveOf (connectTold (now (goal .before .before .before .before .before .args .setup))) _ _ _ _ _ _ (table .table-of .ensures) _ (known .are-known .ensures) (made .before .before .if1 .taken) _ (made .before .new .ensures)
+    (answeredOf (made .setup .result)) is _ (number .number .ensures) (c .before .if2 .left) _ (c .refused .ensures)
+
+refused-requires-2 : tie.Need-refused-requires-2
+refused-requires-2 c κs = search needs
+
+returns-3 : tie.Need-returns-3
+unfolding connectCall
+returns-3 c =
+    let known = c .before .before in
+    let table = known .before .before .before in
+    call-unknown solveOf (connectTold (now (table .before .before .before .before .before .before .args .setup))) _ _ _ _ _ _ (table .table-of .ensures) _ (known .are-known .ensures) (c .before .if1 .left) _ (c .refused2 .ensures)
 
 pub rindmosaic-connect-spec : {M : Type 1} → statement M
 rindmosaic-connect-spec =
@@ -94,6 +96,7 @@ rindmosaic-connect-spec =
     table-of-requires
     element-copy-out-t20
     element-copy-out-t20-2
+    are-known-requires
     new-requires
     setup-requires
     number-requires
@@ -101,4 +104,7 @@ rindmosaic-connect-spec =
     number-requires-2
     same-length
     returns
-    returns-2)
+    refused-requires
+    returns-2
+    refused-requires-2
+    returns-3)

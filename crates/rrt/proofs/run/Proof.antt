@@ -16,14 +16,15 @@ use Rattle.keep_out.specs.declared.KeepOut.{KeepOut}
 use Rattle.columns.specs.Columns.{columnsOf}
 use Rattle.samples.specs.Samples.{samplesOf}
 use Rattle.samples.proofs.Threes.{fewer}
-use Rattle.tree.specs.Table.{nodesIn, nodesOf}
+use Rattle.tree.specs.Table.{Nodes, nodesIn, nodesOf}
 use Rattle.tree.specs.declared.Tree.{Tree}
 use Rattle.tree.proofs.Append.{Sized, putOf, put-sized}
 use Rattle.route.specs.Path.{pathOf}
 use Rattle.route.specs.Written.{writtenOf}
 use Rattle.route.proofs.Stores.{nothing-written}
-use Rattle.rrt.specs.Planner.{Plan}
-use Rattle.rrt.specs.Run.{Ended, noRoute, runOf, planFrom}
+use Rattle.plan.specs.Plan.{Plan, planFrom}
+use Rattle.plan.specs.Solve.{Ended, noRoute}
+use Rattle.rrt.specs.Run.{runOf}
 use Rattle.rrt.proofs.Runs.{turn-refused, turn-full, turn-goal, turn-added}
 use Rattle.rrt.proofs.run.Statement.{statement}
 use Rattle.rrt.proofs.run.Tie as tie
@@ -58,10 +59,10 @@ module _ (c : tie.After-of Inv-samples μ-samples) where
   abbrev plan : Plan
   plan = withColumns (columnsOf (c .of .result .kinds) (c .of .result .numbers) (c .of .result .count))
 
-  abbrev run : Plan → Ended
+  abbrev run : Plan → Ended Nodes
   run p = runOf p (nodesOf (start .args .rooted)) 0 (samplesOf (now (start .args .samples)))
 
-  same-run : (e : Ended) → run plan ≡ e → e ≡ run (planFrom (start .args .mount) (start .args .max) (start .args .goal))
+  same-run : (e : Ended Nodes) → run plan ≡ e → e ≡ run (planFrom (start .args .mount) (start .args .max) (start .args .goal))
   same-run e is = sym is ∙ ap (λ (ks : List KeepOut). run (withColumns ks)) (c .of .ensures .is)
 
 -- what is known after a step
@@ -88,7 +89,7 @@ module _ (c : tie.After-step Inv-samples μ-samples) where
   abbrev p : Plan
   p = plan (head .before)
 
-  abbrev whole : Ended
+  abbrev whole : Ended Nodes
   whole = run (head .before) p
 
   refused : c .step .result .accepted ≡ false → whole ≡ runOf p (nodesOf t) (head .samples .taken + 1) (samplesOf (drop (head .samples .at + 3) (now (args .args .samples))))
@@ -98,7 +99,7 @@ module _ (c : tie.After-step Inv-samples μ-samples) where
   full = turn-full p _ t _ _ _ here (head .samples .inv .2 .1) (head .samples .inv .5) (c .step .result) (c .step .ensures)
 
   module _ (yes : c .step .result .accepted ≡ true) (k : t .count < 512) (b : Bool) (f : b ≡ satisfiedOf (args .args .goal) (c .step .result .at)) where
-    found : b ≡ true → whole ≡ record { nodes = nodesOf grown; answer = Done; path = pathOf (nodesOf grown) (t .count); taken = head .samples .taken + 1 }
+    found : b ≡ true → whole ≡ record { tables = nodesOf grown; answer = Done; path = pathOf (nodesOf grown) (t .count); taken = head .samples .taken + 1 }
     found = turn-goal p _ t _ _ _ here (head .samples .inv .2 .1) (head .samples .inv .5) (c .step .result) (c .step .ensures) (head .samples .inv .3) yes k b f
 
     added : b ≡ false → whole ≡ runOf p (nodesOf grown) (head .samples .taken + 1) (samplesOf (drop (head .samples .at + 3) (now (args .args .samples))))
@@ -204,7 +205,7 @@ returns c =
     let sat = path .before .before .before .before .before .before .before .before in
     let inside = sat .before .before in
     let step = inside .before .before in
-    let e : Ended = record { nodes = nodesOf (grown step); answer = Done; path = pathOf (nodesOf (grown step)) (t step .count); taken = head step .samples .taken + 1 } in
+    let e : Ended Nodes = record { tables = nodesOf (grown step); answer = Done; path = pathOf (nodesOf (grown step)) (t step .count); taken = head step .samples .taken + 1 } in
     record {
       ended = e;
       is = same-run (head step .before) e (found step (inside .before .if1 .taken) (inside .if2 .taken) _ (sat .is-satisfied .ensures) (path .before .before .before .before .before .before .before .if3 .taken));
@@ -225,7 +226,7 @@ same-length-2 c =
 returns-2 : tie.Need-returns-2 Inv-samples μ-samples
 returns-2 c =
     let step = c .before .before in
-    let e : Ended = noRoute (nodesOf (t step)) Full (head step .samples .taken + 1) in
+    let e : Ended Nodes = noRoute (nodesOf (t step)) Full (head step .samples .taken + 1) in
     record {
       ended = e;
       is = same-run (head step .before) e (full step (c .before .if1 .taken) (c .if2 .left));
@@ -270,7 +271,7 @@ returns-3 c =
     let h = c .before .samples in
     let s = start (c .before .before) in
     let p = plan (c .before .before) in
-    let e : Ended = noRoute (nodesOf (h .tree)) SamplesEnded (h .taken) in
+    let e : Ended Nodes = noRoute (nodesOf (h .tree)) SamplesEnded (h .taken) in
     record {
       ended = e;
       is = same-run (c .before .before) e (h .inv .5 ∙ ap (runOf p (nodesOf (h .tree)) (h .taken)) (fewer _ _ (omega arith) (h .inv .0)));

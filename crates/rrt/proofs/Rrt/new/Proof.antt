@@ -1,6 +1,7 @@
 -- `rrt::Rrt::new` meets its contract.
 use mathlib.Core.Path.{refl}
-use Rattle.rrt.specs.Planner.{usableOf, plannerOf}
+use Rattle.plan.specs.Setup.{usableOf}
+use Rattle.rrt.specs.Planner.{plannerOf}
 use borrow.Author.Needs.{needs}
 use Rattle.rrt.proofs.Rrt.new.Statement.{statement}
 use Rattle.rrt.proofs.Rrt.new.Tie as tie

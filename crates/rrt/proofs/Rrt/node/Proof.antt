@@ -6,8 +6,8 @@ use borrow.Author.Needs.{needs}
 use Rattle.rrt.proofs.Rrt.node.Statement.{statement}
 use Rattle.rrt.proofs.Rrt.node.Tie as tie
 
-usable-requires : tie.Need-usable-requires
-usable-requires c κs = search needs
+is-usable-requires : tie.Need-is-usable-requires
+is-usable-requires c κs = search needs
 
 node-at-requires : tie.Need-node-at-requires
 node-at-requires c κs = search needs
@@ -16,10 +16,10 @@ returns : tie.Need-returns
 unfolding nodesOf
 returns c =
     let inside = c .before .before .before .before .before .before in
-    c .node-at .ensures ∙ node-set _ _ (sym (inside .before .usable .ensures) ∙ inside .if1 .taken)
+    c .node-at .ensures ∙ node-set _ _ (sym (inside .before .is-usable .ensures) ∙ inside .if1 .taken)
 
 returns-2 : tie.Need-returns-2
-returns-2 c = node-unset _ _ (sym (c .before .usable .ensures) ∙ c .if1 .left)
+returns-2 c = node-unset _ _ (sym (c .before .is-usable .ensures) ∙ c .if1 .left)
 
 pub node-spec : {M : Type 1} → statement M
-node-spec = tie.close (tie.spec usable-requires node-at-requires returns returns-2)
+node-spec = tie.close (tie.spec is-usable-requires node-at-requires returns returns-2)

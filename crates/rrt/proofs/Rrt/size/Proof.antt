@@ -5,14 +5,14 @@ use borrow.Author.Needs.{needs}
 use Rattle.rrt.proofs.Rrt.size.Statement.{statement}
 use Rattle.rrt.proofs.Rrt.size.Tie as tie
 
-usable-requires : tie.Need-usable-requires
-usable-requires c κs = search needs
+is-usable-requires : tie.Need-is-usable-requires
+is-usable-requires c κs = search needs
 
 returns : tie.Need-returns
-returns c = size-set _ (sym (c .before .usable .ensures) ∙ c .if1 .taken)
+returns c = size-set _ (sym (c .before .is-usable .ensures) ∙ c .if1 .taken)
 
 returns-2 : tie.Need-returns-2
-returns-2 c = size-unset _ (sym (c .before .usable .ensures) ∙ c .if1 .left)
+returns-2 c = size-unset _ (sym (c .before .is-usable .ensures) ∙ c .if1 .left)
 
 pub size-spec : {M : Type 1} → statement M
-size-spec = tie.close (tie.spec usable-requires returns returns-2)
+size-spec = tie.close (tie.spec is-usable-requires returns returns-2)

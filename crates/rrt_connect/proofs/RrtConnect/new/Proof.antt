@@ -1,5 +1,6 @@
 -- `rrt_connect::RrtConnect::new` meets its contract.
 use mathlib.Core.Path.{refl}
+use Rattle.plan.specs.Setup as setup
 use Rattle.rrt_connect.specs.Planner.{usableOf, plannerOf}
 use borrow.Author.Needs.{needs}
 use Rattle.rrt_connect.proofs.RrtConnect.new.Statement.{statement}
@@ -15,7 +16,7 @@ none-requires : tie.Need-none-requires
 none-requires c κs = search needs
 
 returns : tie.Need-returns
-unfolding plannerOf usableOf
+unfolding plannerOf usableOf setup.usableOf
 returns c = refl
 
 pub new-spec : {M : Type 1} → statement M

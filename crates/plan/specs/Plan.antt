@@ -1,0 +1,27 @@
+-- What a planner is to its caller, whatever its plan and its tables are.
+use mathlib.Core.List.{List}
+use lib.Ieee.{Float}
+use Rattle.state.specs.declared.Limits.{Limits}
+use Rattle.state.specs.declared.Length.{Length}
+use Rattle.state.specs.declared.Goal.{Goal}
+use Rattle.keep_out.specs.Table.{keepOutsOf}
+use Rattle.keep_out.specs.declared.KeepOut.{KeepOut}
+use Rattle.motion.specs.declared.Mount.{Mount}
+
+-- what a tree planner's setup gave, without the start
+pub record Plan : Type 0 where
+  pub limits : Limits
+  pub segment : Float
+  pub keepOuts : List KeepOut
+  pub max : Float
+  pub goal : Goal
+
+-- the plan that the code's values make
+abbrev pub planFrom : Mount → Length → Goal → Plan
+planFrom mount max goal =
+    record { limits = mount .limits; segment = mount .segment .value; keepOuts = keepOutsOf (mount .table); max = max .value; goal = goal }
+
+-- uninitialised, or set up: what the setup gave (P), and the tables (A)
+pub data Planner (P A : Type 0) : Type 0 where
+  unset : Planner P A
+  set : P → A → Planner P A

@@ -1,0 +1,30 @@
+-- Document 01, "The mount" and "Sizes and answers": a setup is refused with 2 where a number is outside the page, and then all is kept.
+use Prim.Native.Nat.{ℕ}
+use mathlib.Core.Bool.{Bool, _&&_, cond}
+use lib.Dec.{ltb, leb}
+use Rattle.answer.specs.declared.Answer.{Answer}
+use Rattle.answer.specs.declared.Answer.the-variants.{Done, BadInput}
+use Rattle.state.specs.Ranges.{goodState, goodLength, goodGoal}
+use Rattle.state.specs.declared.State.{State}
+use Rattle.state.specs.declared.Length.{Length}
+use Rattle.state.specs.declared.Goal.{Goal}
+use Rattle.motion.specs.Valid.{goodMount}
+use Rattle.motion.specs.declared.Mount.{Mount}
+use Rattle.plan.specs.Plan.{Planner, unset, set}
+
+-- every number of the setup is good; the start is not validated
+unfoldable pub goodSetup : Mount → Length → State → Goal → Bool
+goodSetup mount reach start goal = goodMount mount && goodLength reach && goodState start && goodGoal goal
+
+-- a planner and its answer
+pub record Told (P A : Type 0) : Type 0 where
+  pub planner : Planner P A
+  pub answer : Answer
+
+-- an accepted setup leaves fresh tables, a refused one keeps all
+unfoldable pub setupWith : {P A : Type 0} → Planner P A → Bool → P → A → Told P A
+setupWith planner good plan fresh = cond good (record { planner = set plan fresh; answer = Done }) (record { planner = planner; answer = BadInput })
+
+-- a setup was accepted, and the tree has a root and at most 512 nodes
+unfoldable pub usableOf : Bool → ℕ → Bool
+usableOf ready count = ready && ltb 0 count && leb count 512

@@ -1,0 +1,3 @@
+pub mod Neighbours
+pub mod Parent
+pub mod Rewiring
