@@ -1,0 +1,4 @@
+pub mod Grow
+pub mod Run
+pub mod Planner
+pub mod Solve

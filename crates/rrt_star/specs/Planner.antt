@@ -1,0 +1,60 @@
+-- What an RRT* planner is to its caller, and document 01's setup: search_radius comes after max_distance.
+use Prim.Native.Nat.{ℕ}
+use mathlib.Core.Bool.{_&&_, cond}
+use mathlib.Core.List.{List, [], _∷_}
+use lib.Dec.{ltb}
+use lib.ListN.{length, getD}
+use lib.Ieee.{binary64, nan, ofBits}
+use Rattle.state.specs.Ranges.{goodLength}
+use Rattle.state.specs.declared.State.{State}
+use Rattle.state.specs.declared.Limits.{Limits}
+use Rattle.state.specs.declared.Length.{Length}
+use Rattle.state.specs.declared.Goal.{Goal}
+use Rattle.keep_out.specs.declared.KeepOuts.{KeepOuts}
+use Rattle.motion.specs.declared.Mount.{Mount}
+use Rattle.tree.specs.Table.{nodeAtOf, rootOf}
+use Rattle.tree.specs.declared.NodeAt.{NodeAt}
+use Rattle.tree.specs.declared.NodeAt.the-variants as node
+use Rattle.plan.specs.Plan.{Planner, unset, set}
+use Rattle.plan.specs.Setup.{Told, goodSetup, setupWith, usableOf}
+use Rattle.rrt_star.specs.Grow.{Costed}
+use Rattle.rrt_star.specs.Run.{StarPlan, starPlan, treeOf}
+use Rattle.rrt_star.specs.declared.RrtStar.{RrtStar}
+use Rattle.rrt_star.specs.declared.Answered.{Answered}
+use Rattle.rrt_star.specs.declared.CostAt.{CostAt}
+use Rattle.rrt_star.specs.declared.CostAt.the-variants.{Cost, Nothing}
+
+abbrev pub View : Type 0
+View = Planner StarPlan Costed
+
+unfoldable pub plannerOf : RrtStar → View
+plannerOf p =
+    cond (usableOf (p .ready) (p .tree .count)) (set (starPlan (p .mount) (p .«max_distance») (p .«search_radius») (p .goal)) (treeOf (p .tree) (p .cost))) unset
+
+abbrev pub newOf : View
+newOf = unset
+
+abbrev pub answeredOf : Answered → Told StarPlan Costed
+answeredOf r = record { planner = plannerOf (r .planner); answer = r .answer }
+
+-- root cost 0
+abbrev pub rootCosted : State → Costed
+rootCosted start = record { nodes = rootOf start; costs = ofBits binary64 0 ∷ [] }
+
+unfoldable pub setupOf : View → Limits → Length → Length → Length → State → Goal → KeepOuts → Told StarPlan Costed
+setupOf planner limits segment max radius start goal table =
+    let mount : Mount = record { limits = limits; segment = segment; table = table } in
+    setupWith planner (goodSetup mount max start goal && goodLength radius) (starPlan mount max radius goal) (rootCosted start)
+
+-- the tree by index, and its costs
+unfoldable pub sizeOf : View → ℕ
+sizeOf unset = 0
+sizeOf (set plan tree) = length (tree .nodes .states)
+
+unfoldable pub nodeOf : View → ℕ → NodeAt
+nodeOf unset i = node.Nothing
+nodeOf (set plan tree) i = nodeAtOf (tree .nodes) i
+
+unfoldable pub costOf : View → ℕ → CostAt
+costOf unset i = Nothing
+costOf (set plan tree) i = cond (ltb i (length (tree .nodes .states))) (Cost (getD (tree .costs) i nan)) Nothing
