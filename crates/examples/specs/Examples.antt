@@ -37,9 +37,9 @@ use Rattle.rrt.specs.Planner.{newOf, setupOf}
 use Rattle.rrt.specs.Run.{afterOf, runOf}
 use Rattle.rrt.specs.Solve.{solveOf}
 use Rattle.extend.specs.Extend.{afterStep, extendOf}
-use Rattle.rrt_connect.specs.Turn.{connectEnds, byVerdict, turnOf}
-use Rattle.rrt_connect.specs.Round.{Trees, roundOf}
-use Rattle.rrt_connect.specs.Ending.{endPath}
+use Rattle.connect.specs.Turn.{connectEnds, byVerdict, turnOf}
+use Rattle.connect.specs.Round.{Trees, roundOf}
+use Rattle.connect.specs.Ending.{endPath}
 use Rattle.rrt_connect.specs.Planner as planner
 use Rattle.rrt_connect.specs.Run as run
 use Rattle.rrt_connect.specs.Solve as connect

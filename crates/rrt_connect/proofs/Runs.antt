@@ -10,11 +10,11 @@ use Rattle.samples.specs.Samples.{samplesOf}
 use Rattle.samples.proofs.Threes.{three}
 use Rattle.tree.specs.Table.{Nodes, nodesIn}
 use Rattle.plan.specs.Plan.{Plan}
-use Rattle.rrt_connect.specs.declared.turn.Ends.{Ends}
-use Rattle.rrt_connect.specs.declared.round.Rounded.{Rounded}
-use Rattle.rrt_connect.specs.Turn.{Columns}
-use Rattle.rrt_connect.specs.Round.{Trees, Round, roundOf, treesAt, Rounds}
-use Rattle.rrt_connect.specs.Ending.{goesOnOf, answerOf, endPath}
+use Rattle.connect.specs.declared.turn.Ends.{Ends}
+use Rattle.connect.specs.declared.round.Rounded.{Rounded}
+use Rattle.connect.specs.Turn.{Columns}
+use Rattle.connect.specs.Round.{Trees, Round, roundOf, treesAt, Rounds}
+use Rattle.connect.specs.Ending.{goesOnOf, answerOf, endPath}
 use Rattle.plan.specs.Solve.{Ended}
 use Rattle.rrt_connect.specs.Run.{afterOf, runOf}
 

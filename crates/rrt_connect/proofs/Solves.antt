@@ -14,7 +14,7 @@ use Rattle.plan.specs.Solve.{Ended, Outcome, refusedOf, endedOf}
 use Rattle.plan.proofs.Answers as answers
 use Rattle.rrt_connect.specs.declared.RrtConnect.{RrtConnect}
 use Rattle.rrt_connect.specs.declared.run.Ran.{Ran}
-use Rattle.rrt_connect.specs.Round.{Trees}
+use Rattle.connect.specs.Round.{Trees}
 use Rattle.rrt_connect.specs.Planner.{usableOf, treesOf, plannerOf}
 use Rattle.rrt_connect.specs.Run.{runOf, Runs}
 use Rattle.rrt_connect.specs.Solve.{needed, runFrom, solveOf}

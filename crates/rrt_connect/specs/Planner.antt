@@ -15,7 +15,7 @@ use Rattle.tree.specs.declared.NodeAt.the-variants.{Nothing}
 use Rattle.plan.specs.Plan.{Plan, planFrom, Planner, unset, set}
 use Rattle.plan.specs.Setup as setup
 use Rattle.plan.specs.Setup.{Told, goodSetup, setupWith}
-use Rattle.rrt_connect.specs.Round.{Trees, sizeOf}
+use Rattle.connect.specs.Round.{Trees, sizeOf}
 use Rattle.rrt_connect.specs.declared.RrtConnect.{RrtConnect}
 use Rattle.rrt_connect.specs.declared.Answered.{Answered}
 

@@ -17,8 +17,8 @@ use Rattle.tree.specs.declared.Tree.{Tree}
 use Rattle.route.specs.Written.{writtenOf}
 use Rattle.plan.specs.Plan.{Plan, planFrom}
 use Rattle.plan.specs.Solve.{Ended, noRoute}
-use Rattle.rrt_connect.specs.Round.{Trees, Round, roundOf}
-use Rattle.rrt_connect.specs.Ending.{goesOnOf, answerOf, endPath}
+use Rattle.connect.specs.Round.{Trees, Round, roundOf}
+use Rattle.connect.specs.Ending.{goesOnOf, answerOf, endPath}
 use Rattle.rrt_connect.specs.declared.run.Ran.{Ran}
 
 -- what a round leads to: `later` is the run over the samples that are left

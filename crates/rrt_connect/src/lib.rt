@@ -13,10 +13,7 @@ ghost use mathlib.Core.Path.{_≡_};
 ghost use Rattle.rrt_connect.specs.Planner.{usableOf, plannerOf, newOf, setupOf, answeredOf, startSizeOf, goalSizeOf, startNodeOf, goalNodeOf};
 ghost use Rattle.rrt_connect.specs.Solve.{solvedOf, solveOf};
 
-mod ending;
-mod round;
 mod run;
-mod turn;
 
 // What an accepted setup gave, and the trees that have grown since.
 pub struct RrtConnect {

@@ -1,8 +1,8 @@
 // A run over a list of samples (document 01, "RRT-Connect"): each makes a round, until one ends the run or the list is used up.
-use crate::ending;
-use crate::round;
 use answer::Answer;
 use columns::Columns;
+use connect::ending;
+use connect::round;
 use motion::Mount;
 use state::Goal;
 use state::Length;

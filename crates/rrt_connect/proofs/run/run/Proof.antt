@@ -19,9 +19,9 @@ use Rattle.route.proofs.Stores.{nothing-written}
 use Rattle.extend.specs.Extend.{Sized}
 use Rattle.plan.specs.Plan.{Plan, planFrom}
 use Rattle.plan.specs.Solve.{Ended}
-use Rattle.rrt_connect.specs.Turn.{planWith, Columns, columnsAt}
-use Rattle.rrt_connect.specs.Round.{Trees, treesAt}
-use Rattle.rrt_connect.specs.Ending.{answerOf, endPath}
+use Rattle.connect.specs.Turn.{planWith, Columns, columnsAt}
+use Rattle.connect.specs.Round.{Trees, treesAt}
+use Rattle.connect.specs.Ending.{answerOf, endPath}
 use Rattle.rrt_connect.specs.Run.{runOf}
 use Rattle.rrt_connect.proofs.Runs.{turn-on, turn-ends}
 use Rattle.rrt_connect.proofs.run.run.Statement.{statement}

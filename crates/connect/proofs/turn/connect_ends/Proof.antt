@@ -1,8 +1,8 @@
--- `rrt_connect::turn::connect_ends` meets its contract.
+-- `connect::turn::connect_ends` meets its contract.
 use borrow.Author.Needs.{needs}
-use Rattle.rrt_connect.proofs.Connected.{ends-refused, ends-full, ends-joined, ends-short}
-use Rattle.rrt_connect.proofs.turn.connect_ends.Statement.{statement}
-use Rattle.rrt_connect.proofs.turn.connect_ends.Tie as tie
+use Rattle.connect.proofs.Connected.{ends-refused, ends-full, ends-joined, ends-short}
+use Rattle.connect.proofs.turn.connect_ends.Statement.{statement}
+use Rattle.connect.proofs.turn.connect_ends.Tie as tie
 
 enum-told : tie.Need-enum-told
 enum-told c = search needs

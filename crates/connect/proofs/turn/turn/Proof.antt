@@ -1,14 +1,14 @@
--- `rrt_connect::turn::turn` meets its contract.
+-- `connect::turn::turn` meets its contract.
 use denote.Ref.{now}
 use Rattle.tree.specs.Table.{nodesIn}
-use Rattle.rrt_connect.specs.Turn.{columnsAt, Holds}
+use Rattle.connect.specs.Turn.{columnsAt, Holds}
 use mathlib.Core.Logic.{⊎-elim}
 use mathlib.Core.Path.{_≡_, refl, sym, _∙_}
 use Rattle.laws.specs.Cases.{and-true, and-left, and-right}
-use Rattle.rrt_connect.proofs.Turning.{turn-refused, turn-full, turn-goal, turn-connected}
+use Rattle.connect.proofs.Turning.{turn-refused, turn-full, turn-goal, turn-connected}
 use borrow.Author.Needs.{needs}
-use Rattle.rrt_connect.proofs.turn.turn.Statement.{statement}
-use Rattle.rrt_connect.proofs.turn.turn.Tie as tie
+use Rattle.connect.proofs.turn.turn.Statement.{statement}
+use Rattle.connect.proofs.turn.turn.Tie as tie
 
 -- the other tree, as it came
 beside :

@@ -1,8 +1,8 @@
--- `rrt_connect::turn::connected` meets its contract.
+-- `connect::turn::connected` meets its contract.
 use borrow.Author.Needs.{needs}
-use Rattle.rrt_connect.proofs.Connected.{connects}
-use Rattle.rrt_connect.proofs.turn.connected.Statement.{statement}
-use Rattle.rrt_connect.proofs.turn.connected.Tie as tie
+use Rattle.connect.proofs.Connected.{connects}
+use Rattle.connect.proofs.turn.connected.Statement.{statement}
+use Rattle.connect.proofs.turn.connected.Tie as tie
 
 extend-requires : tie.Need-extend-requires
 extend-requires c κs = search needs

@@ -13,11 +13,11 @@ use Rattle.route.specs.Written.{flatOf, writtenOf, Wrote, Appended}
 use Rattle.route.proofs.Stores.{nothing-written}
 use Rattle.route.proofs.Upwards.{written-on}
 use Rattle.plan.specs.Plan.{Plan}
-use Rattle.rrt_connect.specs.declared.turn.Ends.{Ends}
-use Rattle.rrt_connect.specs.declared.turn.Ends.the-variants.{GoesOn, Full, Goal, Joined}
-use Rattle.rrt_connect.specs.Turn.{Columns}
-use Rattle.rrt_connect.specs.Round.{Trees, treesAt}
-use Rattle.rrt_connect.specs.Ending.{endPath, newest, WroteEnd}
+use Rattle.connect.specs.declared.turn.Ends.{Ends}
+use Rattle.connect.specs.declared.turn.Ends.the-variants.{GoesOn, Full, Goal, Joined}
+use Rattle.connect.specs.Turn.{Columns}
+use Rattle.connect.specs.Round.{Trees, treesAt}
+use Rattle.connect.specs.Ending.{endPath, newest, WroteEnd}
 
 abbrev nodesAt : ℕ → Columns → Nodes
 nodesAt n c = nodesIn n (c .az) (c .el) (c .feed) (c .parent)

@@ -11,10 +11,10 @@ use Rattle.extend.specs.Extend.{Grown, extendOf, Extends}
 use Rattle.extend.specs.declared.Extended.{Extended}
 use Rattle.extend.specs.declared.Verdict.the-variants as verdict
 use Rattle.plan.specs.Plan.{Plan}
-use Rattle.rrt_connect.specs.declared.turn.Ends.{Ends}
-use Rattle.rrt_connect.specs.declared.turn.Ends.the-variants as ends
-use Rattle.rrt_connect.specs.declared.turn.Turned.{Turned}
-use Rattle.rrt_connect.specs.Turn.{connectEnds, Connects, After, byVerdict, turnOf, Columns, columnsAt, Holds, Turns}
+use Rattle.connect.specs.declared.turn.Ends.{Ends}
+use Rattle.connect.specs.declared.turn.Ends.the-variants as ends
+use Rattle.connect.specs.declared.turn.Turned.{Turned}
+use Rattle.connect.specs.Turn.{connectEnds, Connects, After, byVerdict, turnOf, Columns, columnsAt, Holds, Turns}
 
 -- the definition, at the growing tree's step g
 module _ (p : Plan) (fromStart : Bool) (growing other : Nodes) (sample : State) (g : Grown)

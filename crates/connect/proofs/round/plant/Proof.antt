@@ -1,9 +1,9 @@
--- `rrt_connect::round::plant` meets its contract.
+-- `connect::round::plant` meets its contract.
 use denote.Ref.{now}
-use Rattle.rrt_connect.proofs.Rounding.{planted}
+use Rattle.connect.proofs.Rounding.{planted}
 use borrow.Author.Needs.{needs}
-use Rattle.rrt_connect.proofs.round.plant.Statement.{statement}
-use Rattle.rrt_connect.proofs.round.plant.Tie as tie
+use Rattle.connect.proofs.round.plant.Statement.{statement}
+use Rattle.connect.proofs.round.plant.Tie as tie
 
 element-write-az : tie.Need-element-write-az
 element-write-az c = search needs

@@ -10,8 +10,8 @@ ghost use Prim.Native.Nat.{_≤_, _<_};
 ghost use Rattle.columns.specs.Columns.{columnsOf};
 ghost use Rattle.tree.specs.Table.{nodesIn, rootOf};
 ghost use Rattle.extend.specs.Extend.{Sized};
-ghost use Rattle.rrt_connect.specs.Turn.{planWith, columnsAt, Holds};
-ghost use Rattle.rrt_connect.specs.Round.{treesAt, Rounds};
+ghost use Rattle.connect.specs.Turn.{planWith, columnsAt, Holds};
+ghost use Rattle.connect.specs.Round.{treesAt, Rounds};
 
 // How a sample ended, and how many nodes the trees have then.
 pub struct Rounded {

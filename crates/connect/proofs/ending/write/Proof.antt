@@ -1,4 +1,4 @@
--- `rrt_connect::ending::write` meets its contract.
+-- `connect::ending::write` meets its contract.
 use Prim.Native.Nat.{_≤_}
 use native.Mathlib.Omega.{arith}
 use mathlib.Core.Path.{_≡_, refl, sym, _∙_}
@@ -6,11 +6,11 @@ use denote.Ref.{now}
 use lib.ListN.{length}
 use Rattle.tree.specs.Table.{nodesIn}
 use Rattle.tree.proofs.Append.{states-length}
-use Rattle.rrt_connect.specs.Turn.{columnsAt}
-use Rattle.rrt_connect.proofs.Endings.{end-goes-on, end-full, end-goal, end-joined}
+use Rattle.connect.specs.Turn.{columnsAt}
+use Rattle.connect.proofs.Endings.{end-goes-on, end-full, end-goal, end-joined}
 use borrow.Author.Needs.{needs}
-use Rattle.rrt_connect.proofs.ending.write.Statement.{statement}
-use Rattle.rrt_connect.proofs.ending.write.Tie as tie
+use Rattle.connect.proofs.ending.write.Statement.{statement}
+use Rattle.connect.proofs.ending.write.Tie as tie
 
 -- the start tree's route has at most 512 states, and the goal tree's at most 511 more
 module _ (c : tie.After-reconstruct-path2) where

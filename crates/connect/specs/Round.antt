@@ -9,10 +9,10 @@ use lib.ListN.{length}
 use Rattle.state.specs.declared.State.{State}
 use Rattle.tree.specs.Table.{Nodes, nodesIn, rootOf}
 use Rattle.plan.specs.Plan.{Plan}
-use Rattle.rrt_connect.specs.declared.turn.Ends.{Ends}
-use Rattle.rrt_connect.specs.declared.turn.Ends.the-variants.{GoesOn}
-use Rattle.rrt_connect.specs.declared.round.Rounded.{Rounded}
-use Rattle.rrt_connect.specs.Turn.{After, turnOf, Columns, Holds}
+use Rattle.connect.specs.declared.turn.Ends.{Ends}
+use Rattle.connect.specs.declared.turn.Ends.the-variants.{GoesOn}
+use Rattle.connect.specs.declared.round.Rounded.{Rounded}
+use Rattle.connect.specs.Turn.{After, turnOf, Columns, Holds}
 
 pub record Trees : Type 0 where
   pub start : Nodes

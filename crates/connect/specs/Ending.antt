@@ -11,9 +11,9 @@ use Rattle.state.specs.declared.State.{State}
 use Rattle.tree.specs.Table.{Nodes}
 use Rattle.route.specs.Path.{pathOf, upwardsOf}
 use Rattle.route.specs.Written.{writtenOf}
-use Rattle.rrt_connect.specs.declared.turn.Ends.{Ends}
-use Rattle.rrt_connect.specs.declared.turn.Ends.the-variants.{GoesOn, Full, Goal, Joined}
-use Rattle.rrt_connect.specs.Round.{Trees, sizeOf}
+use Rattle.connect.specs.declared.turn.Ends.{Ends}
+use Rattle.connect.specs.declared.turn.Ends.the-variants.{GoesOn, Full, Goal, Joined}
+use Rattle.connect.specs.Round.{Trees, sizeOf}
 
 abbrev pub goesOnOf : Ends → Bool
 goesOnOf GoesOn = true

@@ -18,9 +18,9 @@ use Rattle.extend.specs.Extend.{Grown, extendOf, Sized}
 use Rattle.extend.specs.declared.Verdict.{Verdict}
 use Rattle.extend.specs.declared.Verdict.the-variants as verdict
 use Rattle.plan.specs.Plan.{Plan}
-use Rattle.rrt_connect.specs.declared.turn.Ends.{Ends}
-use Rattle.rrt_connect.specs.declared.turn.Ends.the-variants as ends
-use Rattle.rrt_connect.specs.declared.turn.Turned.{Turned}
+use Rattle.connect.specs.declared.turn.Ends.{Ends}
+use Rattle.connect.specs.declared.turn.Ends.the-variants as ends
+use Rattle.connect.specs.declared.turn.Turned.{Turned}
 
 -- what the other tree's step leads to
 unfoldable pub connectEnds : Verdict → Bool → Ends

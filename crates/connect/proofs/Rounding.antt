@@ -12,11 +12,11 @@ use Rattle.tree.specs.Table.{Nodes, nodesIn, nodesOf, grownOf, rootOf, statesOf
 use Rattle.tree.proofs.Append.{states-most, put-grows}
 use Rattle.extend.specs.Extend.{Sized}
 use Rattle.plan.specs.Plan.{Plan}
-use Rattle.rrt_connect.specs.declared.turn.Ends.the-variants.{GoesOn}
-use Rattle.rrt_connect.specs.declared.turn.Turned.{Turned}
-use Rattle.rrt_connect.specs.declared.round.Rounded.{Rounded}
-use Rattle.rrt_connect.specs.Turn.{After, turnOf, Columns, columnsAt, Holds, Turns}
-use Rattle.rrt_connect.specs.Round.{Trees, Round, sizeOf, roundOf, treesAt, Rounds}
+use Rattle.connect.specs.declared.turn.Ends.the-variants.{GoesOn}
+use Rattle.connect.specs.declared.turn.Turned.{Turned}
+use Rattle.connect.specs.declared.round.Rounded.{Rounded}
+use Rattle.connect.specs.Turn.{After, turnOf, Columns, columnsAt, Holds, Turns}
+use Rattle.connect.specs.Round.{Trees, Round, sizeOf, roundOf, treesAt, Rounds}
 
 -- a root stored in the first place
 pub planted :

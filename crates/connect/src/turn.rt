@@ -8,7 +8,7 @@ ghost use Prim.Native.Nat.{_≤_, _<_};
 ghost use Rattle.columns.specs.Columns.{columnsOf};
 ghost use Rattle.tree.specs.Table.{nodesIn};
 ghost use Rattle.extend.specs.Extend.{Sized};
-ghost use Rattle.rrt_connect.specs.Turn.{connectEnds, Connects, planWith, columnsAt, Turns};
+ghost use Rattle.connect.specs.Turn.{connectEnds, Connects, planWith, columnsAt, Turns};
 
 // What a sample led to.
 pub enum Ends {

@@ -1,13 +1,13 @@
--- `rrt_connect::round::round` meets its contract.
+-- `connect::round::round` meets its contract.
 use mathlib.Core.Path.{_≡_, refl}
 use denote.Ref.{now}
 use Rattle.tree.specs.Table.{nodesIn}
-use Rattle.rrt_connect.specs.Turn.{Holds, columnsAt}
-use Rattle.rrt_connect.specs.Round.{treesAt}
-use Rattle.rrt_connect.proofs.Rounding.{round-planted, round-start, round-goal}
+use Rattle.connect.specs.Turn.{Holds, columnsAt}
+use Rattle.connect.specs.Round.{treesAt}
+use Rattle.connect.proofs.Rounding.{round-planted, round-start, round-goal}
 use borrow.Author.Needs.{needs}
-use Rattle.rrt_connect.proofs.round.round.Statement.{statement}
-use Rattle.rrt_connect.proofs.round.round.Tie as tie
+use Rattle.connect.proofs.round.round.Statement.{statement}
+use Rattle.connect.proofs.round.round.Tie as tie
 
 plant-requires : tie.Need-plant-requires
 plant-requires c κs = search needs

@@ -4,9 +4,9 @@ use answer::Answer;
 ghost use mathlib.Core.Path.{_≡_};
 ghost use Prim.Native.Nat.{_≤_, _<_};
 ghost use lib.ListN.{length};
-ghost use Rattle.rrt_connect.specs.Turn.{columnsAt};
-ghost use Rattle.rrt_connect.specs.Round.{treesAt};
-ghost use Rattle.rrt_connect.specs.Ending.{goesOnOf, answerOf, WroteEnd};
+ghost use Rattle.connect.specs.Turn.{columnsAt};
+ghost use Rattle.connect.specs.Round.{treesAt};
+ghost use Rattle.connect.specs.Ending.{goesOnOf, answerOf, WroteEnd};
 
 pub fn goes_on(ends: Ends) -> bool
     ensures { λ r. ⌜ r ≡ goesOnOf ends ⌝ }

@@ -12,9 +12,9 @@ use Rattle.extend.specs.Extend.{Extends}
 use Rattle.extend.specs.declared.Extended.{Extended}
 use Rattle.extend.specs.declared.Verdict.{Verdict}
 use Rattle.extend.specs.declared.Verdict.the-variants as verdict
-use Rattle.rrt_connect.specs.declared.turn.Ends.{Ends}
-use Rattle.rrt_connect.specs.declared.turn.Ends.the-variants as ends
-use Rattle.rrt_connect.specs.Turn.{connectEnds, Connects}
+use Rattle.connect.specs.declared.turn.Ends.{Ends}
+use Rattle.connect.specs.declared.turn.Ends.the-variants as ends
+use Rattle.connect.specs.Turn.{connectEnds, Connects}
 
 -- what each verdict leads to
 module _ (v : Verdict) (reached : Bool) where
