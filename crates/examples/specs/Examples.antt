@@ -30,7 +30,7 @@ use Rattle.tree.specs.Nearest.{nearestFrom, nearestOf}
 use Rattle.tree.specs.Step.{stepFrom, stepOf}
 use Rattle.route.specs.Path.{climbOf, pathOf, ancestorsOf, upwardsOf}
 use Rattle.route.specs.Written.{flatOf, writtenOf}
-use Rattle.plan.specs.Plan.{Plan}
+use Rattle.plan.specs.Plan.{Plan, unset, set}
 use Rattle.plan.specs.Setup.{goodSetup, setupWith}
 use Rattle.plan.specs.Solve.{Outcome, endedOf, solveWith}
 use Rattle.rrt.specs.Planner.{newOf, setupOf}
@@ -43,7 +43,16 @@ use Rattle.connect.specs.Ending.{endPath}
 use Rattle.rrt_connect.specs.Planner as planner
 use Rattle.rrt_connect.specs.Run as run
 use Rattle.rrt_connect.specs.Solve as connect
-use Rattle.examples.specs.Words.{ratio, whole, at, on, origin, limits, segment, box, unused, same, sameState, sameStates, sameNumbers}
+use Rattle.rewire.specs.Neighbours.{neighboursFrom, neighboursOf}
+use Rattle.rewire.specs.Parent.{costVia, isBetter, chooseFrom, chooseOf}
+use Rattle.rewire.specs.Rewiring.{costUnder, moves, rewireOf}
+use Rattle.rrt_star.specs.Grow as grow
+use Rattle.rrt_star.specs.Grow.{Costed, addedOf, growOf}
+use Rattle.rrt_star.specs.Run as star-run
+use Rattle.rrt_star.specs.Run.{StarPlan}
+use Rattle.rrt_star.specs.Planner as star
+use Rattle.rrt_star.specs.Solve as star-solve
+use Rattle.examples.specs.Words.{ratio, whole, at, on, origin, limits, segment, box, unused, none, same, sameState, sameLists, sameStates, sameNumbers, sameIndices}
 
 -- what an example says
 pub data Case : Type 0 where
@@ -61,6 +70,8 @@ pub data Case : Type 0 where
   planned : Float → State → Goal → List Float → List Float → ℕ → Case
   -- RRT-Connect, the same
   connected : Float → State → Goal → List Float → List Float → ℕ → Case
+  -- RRT* with this max_distance and search_radius, over a list of samples: the answer, and each node's parent and cost
+  rewired : Float → Float → State → Goal → List Float → ℕ → List ℕ → List Float → Case
 
 unfoldable pub counts : Steps → ℕ → Bool
 counts (Count n) m = eqb n m
@@ -86,6 +97,16 @@ connectedBy max start goal samples =
     let told = planner.setupOf planner.newOf limits (record { value = segment }) (record { value = max }) start goal emptyTable in
     connect.solveOf (told .planner) samples (replicate 3069 unused)
 
+unfoldable pub rewiredBy : Float → Float → State → Goal → List Float → Outcome StarPlan Costed
+rewiredBy max search start goal samples =
+    let told = star.setupOf star.newOf limits (record { value = segment }) (record { value = max }) (record { value = search }) start goal emptyTable in
+    star-solve.solveOf (told .planner) samples (replicate 1536 unused)
+
+-- how the nodes of a planner that is set up hang together
+unfoldable pub hangs : star.View → List ℕ → List Float → Bool
+hangs unset parents costs = false
+hangs (set plan tree) parents costs = sameIndices (tree .nodes .parents) parents && sameNumbers (tree .costs) costs
+
 unfoldable pub holds : Case → Bool
 holds (distance a b d) = same (distanceOf a b) d
 holds (tested length from to n ss) = counts (stepsOf length from to) n && pointsAre (checkedOf length from to) ss
@@ -98,6 +119,9 @@ holds (planned max start goal samples numbers taken) =
 holds (connected max start goal samples numbers taken) =
     let o = connectedBy max start goal samples in
     gives 3069 (o .answer) (o .count) (o .taken) (o .route) numbers taken
+holds (rewired max search start goal samples answer parents costs) =
+    let o = rewiredBy max search start goal samples in
+    eqb (numberOf (o .answer)) answer && hangs (o .planner) parents costs
 
 unfoldable pub allHold : List Case → Bool
 allHold [] = true
@@ -133,8 +157,12 @@ examples =
     ∷ connected (whole 4) origin (record { centre = on (whole 8); radius = ratio 5 10 })
     (whole 8 ∷ whole 0 ∷ whole 0 ∷ whole 4 ∷ whole 0 ∷ whole 0 ∷ [])
     (whole 0 ∷ whole 0 ∷ whole 0 ∷ whole 4 ∷ whole 0 ∷ whole 0 ∷ whole 8 ∷ whole 0 ∷ whole 0 ∷ []) 2
+    -- E10 RRT*, max 4, search 1.5, start (0,0,0), goal (50,0,0) radius 0, samples (3,0,0),(2,0,0),(1,0,0): answer 3; parents none,0,3,0; costs 0,3,2,1
+    ∷ rewired (whole 4) (ratio 15 10) origin (record { centre = on (whole 50); radius = whole 0 })
+    (whole 3 ∷ whole 0 ∷ whole 0 ∷ whole 2 ∷ whole 0 ∷ whole 0 ∷ whole 1 ∷ whole 0 ∷ whole 0 ∷ []) 3
+    (none ∷ 0 ∷ 3 ∷ 0 ∷ []) (whole 0 ∷ whole 3 ∷ whole 2 ∷ whole 1 ∷ [])
     ∷ []
 
 pub examples-hold : T (allHold examples)
-unfolding examples allHold holds counts pointsAre gives plannedBy same sameState sameStates sameNumbers distanceOf widerOf apartOf interpolateOf steerBy steerOf satisfiedOf insideOf withinOf coordinateOf goodState atMostOf goodSpan goodLimits goodLength goodGoal coversOf coveredOf allGood goodTable keepOutsOf emptyTable validOf goodMount quotientOf searchOf leastOf stepsOf partWay partWays testedOf checkedAt checkedOf allValid acceptedOf acceptsOf allCoordinates goodSamples samplesOf grownOf rootOf nearestFrom nearestOf stepFrom stepOf climbOf pathOf flatOf writtenOf goodSetup setupWith setupOf afterOf runOf endedOf solveWith solveOf connectedBy ancestorsOf upwardsOf afterStep extendOf connectEnds byVerdict turnOf roundOf endPath planner.setupOf run.afterOf run.runOf connect.solveOf add sub mul div lt le ofInt ofBits toBits
+unfolding examples allHold holds counts pointsAre gives plannedBy same sameState sameLists distanceOf widerOf apartOf interpolateOf steerBy steerOf satisfiedOf insideOf withinOf coordinateOf goodState atMostOf goodSpan goodLimits goodLength goodGoal coversOf coveredOf allGood goodTable keepOutsOf emptyTable validOf goodMount quotientOf searchOf leastOf stepsOf partWay partWays testedOf checkedAt checkedOf allValid acceptedOf acceptsOf allCoordinates goodSamples samplesOf grownOf rootOf nearestFrom nearestOf stepFrom stepOf climbOf pathOf flatOf writtenOf goodSetup setupWith setupOf afterOf runOf endedOf solveWith solveOf connectedBy ancestorsOf upwardsOf afterStep extendOf connectEnds byVerdict turnOf roundOf endPath planner.setupOf run.afterOf run.runOf connect.solveOf rewiredBy hangs neighboursFrom neighboursOf costVia isBetter chooseFrom chooseOf costUnder moves rewireOf addedOf grow.afterStep growOf star-run.afterOf star-run.runOf star.setupOf star-solve.solveOf add sub mul div lt le ofInt ofBits toBits
 examples-hold = tt

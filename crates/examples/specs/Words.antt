@@ -45,6 +45,10 @@ box low high = Box (on low) (at high (whole 1) (whole 1))
 abbrev pub unused : Float
 unused = ratio 725 100
 
+-- the parent of a root: no node's number
+abbrev pub none : ℕ
+none = 512
+
 -- the same bits: 0.0 and -0.0 are not the same
 unfoldable pub same : Float → Float → Bool
 same x y = eqb (toBits binary64 x) (toBits binary64 y)
@@ -52,14 +56,18 @@ same x y = eqb (toBits binary64 x) (toBits binary64 y)
 unfoldable pub sameState : State → State → Bool
 sameState s t = same (s .az) (t .az) && same (s .el) (t .el) && same (s .feed) (t .feed)
 
-unfoldable pub sameStates : List State → List State → Bool
-sameStates [] [] = true
-sameStates (s ∷ ss) (t ∷ ts) = sameState s t && sameStates ss ts
-sameStates [] (t ∷ ts) = false
-sameStates (s ∷ ss) [] = false
+-- two lists, place by place
+unfoldable pub sameLists : {A : Type 0} → (A → A → Bool) → List A → List A → Bool
+sameLists f [] [] = true
+sameLists f (x ∷ xs) (y ∷ ys) = f x y && sameLists f xs ys
+sameLists f [] (y ∷ ys) = false
+sameLists f (x ∷ xs) [] = false
 
-unfoldable pub sameNumbers : List Float → List Float → Bool
-sameNumbers [] [] = true
-sameNumbers (x ∷ xs) (y ∷ ys) = same x y && sameNumbers xs ys
-sameNumbers [] (y ∷ ys) = false
-sameNumbers (x ∷ xs) [] = false
+abbrev pub sameStates : List State → List State → Bool
+sameStates = sameLists sameState
+
+abbrev pub sameNumbers : List Float → List Float → Bool
+sameNumbers = sameLists same
+
+abbrev pub sameIndices : List ℕ → List ℕ → Bool
+sameIndices = sameLists eqb

@@ -19,6 +19,10 @@ use Rattle.rrt.specs.Solve as rrt-solve
 use Rattle.rrt_connect.specs.Planner as connect
 use Rattle.connect.specs.Round.{Trees}
 use Rattle.rrt_connect.specs.Solve as connect-solve
+use Rattle.rrt_star.specs.Grow.{Costed}
+use Rattle.rrt_star.specs.Run.{StarPlan}
+use Rattle.rrt_star.specs.Planner as star
+use Rattle.rrt_star.specs.Solve as star-solve
 use Rattle.host.specs.Setup.{number, limitsIn, startIn, goalIn}
 use Rattle.host.specs.Table.{Listed, knownOf}
 use Rattle.host.specs.declared.Report.{Report}
@@ -46,6 +50,15 @@ connectTold l planner table = connect.setupOf planner (limitsIn l) (lengthAt l 6
 
 unfoldable pub connectCall : List Float → List ℕ → ℕ → List Float → List Float → KeepOuts → Outcome Plan Trees
 connectCall l kinds count samples route table = callWith connect-solve.solveOf (knownOf kinds count) (connectTold l connect.newOf table) samples route
+
+-- RRT*'s, with the search radius
+abbrev pub starTold : List Float → Float → star.View → KeepOuts → Told StarPlan Costed
+starTold l radius planner table =
+    star.setupOf planner (limitsIn l) (lengthAt l 6) (lengthAt l 7) (record { value = radius }) (startIn l) (goalIn l) table
+
+unfoldable pub starCall : List Float → Float → List ℕ → ℕ → List Float → List Float → KeepOuts → Outcome StarPlan Costed
+starCall l radius kinds count samples route table =
+    callWith star-solve.solveOf (knownOf kinds count) (starTold l radius star.newOf table) samples route
 
 -- what is reported of an outcome, and the route at exit
 pub record Reports {P A : Type 0} (o : Outcome P A) (r : Report) (new : List Float) : Type 0 where

@@ -1,9 +1,10 @@
 // The planners for a host in C or Rust, and for the benchmark: a setup and a solve in one call on plain numbers.
 use rrt::Rrt;
 use rrt_connect::RrtConnect;
+use rrt_star::RrtStar;
 use state::Length;
 ghost use mathlib.Core.Path.{_≡_};
-ghost use Rattle.host.specs.Call.{Called, rrtCall, connectCall};
+ghost use Rattle.host.specs.Call.{Called, rrtCall, connectCall, starCall};
 
 mod given;
 
@@ -84,6 +85,46 @@ pub extern "C" fn rindmosaic_connect<'a>(
     let max_distance = Length { value: setup[7] };
     if given::are_known(kinds, keep_outs) {
         let made = RrtConnect::new().setup(limits, segment, max_distance, start, goal, table);
+        let told = made.answer;
+        let refusal = told.number();
+        if refusal == 0 {
+            let solved = made.planner.solve(samples, route);
+            let answer = solved.answer;
+            return Report {
+                answer: answer.number(),
+                count: solved.count,
+                taken: solved.taken,
+            };
+        }
+        return refused(refusal);
+    }
+    refused(BAD_INPUT)
+}
+
+// The same with RRT*, whose search radius comes beside the fifteen numbers.
+#[no_mangle]
+pub extern "C" fn rindmosaic_star<'a>(
+    setup: &'a [f64; 15],
+    search_radius: f64,
+    kinds: &'a [u8; 32],
+    numbers: &'a [f64; 192],
+    keep_outs: usize,
+    samples: &'a [f64],
+    route: &mut [f64],
+) -> Report
+    ensures { λ r. ⌜ Called (starCall (now (setup .entry)) «search_radius» (now (kinds .entry)) «keep_outs» (now (samples .entry)) (now (route .entry))) (now (kinds .entry)) (now (numbers .entry)) «keep_outs» r (now (route .exit)) ⌝ }
+{
+    let limits = given::limits_in(setup);
+    let start = given::start_in(setup);
+    let goal = given::goal_in(setup);
+    let table = given::table_of(kinds, numbers, keep_outs);
+    let segment = Length { value: setup[6] };
+    let max_distance = Length { value: setup[7] };
+    let radius = Length {
+        value: search_radius,
+    };
+    if given::are_known(kinds, keep_outs) {
+        let made = RrtStar::new().setup(limits, segment, max_distance, radius, start, goal, table);
         let told = made.answer;
         let refusal = told.number();
         if refusal == 0 {

@@ -3,8 +3,10 @@ use grammar::Planner;
 use mount_calls::Kept;
 use planner_calls::connect_calls;
 use planner_calls::rrt_calls;
+use planner_calls::star_calls;
 use rrt::Rrt;
 use rrt_connect::RrtConnect;
+use rrt_star::RrtStar;
 use script::Kind;
 use script::Line;
 use words::input;
@@ -15,6 +17,7 @@ struct Planners {
     mount: Kept,
     rrt: Rrt,
     connect: RrtConnect,
+    star: RrtStar,
 }
 
 // What came of a line: whether it is a call that was made, and the planners after it.
@@ -80,6 +83,16 @@ fn make(out: &mut [u8], space: &[f64], planners: Planners, line: Line) -> Made {
                 planners: after,
             }
         }
+        Planner::Star => {
+            let called = star_calls::call(out, planners.star, line, numbers);
+            let star = called.planner;
+            let mut after = planners;
+            after.star = star;
+            Made {
+                is_call: called.is_made,
+                planners: after,
+            }
+        }
         _ => Made {
             is_call: false,
             planners,
@@ -137,10 +150,12 @@ fn uninitialised() -> Planners {
     let mount = mount_calls::none();
     let rrt = Rrt::new();
     let connect = RrtConnect::new();
+    let star = RrtStar::new();
     Planners {
         mount,
         rrt,
         connect,
+        star,
     }
 }
 

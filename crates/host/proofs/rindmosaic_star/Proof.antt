@@ -1,0 +1,113 @@
+-- `host::rindmosaic_star` meets its contract.
+use mathlib.Core.Path.{_≡_, sym}
+use denote.Ref.{now}
+use borrow.Author.Needs.{needs}
+use Rattle.rrt_star.specs.Planner.{answeredOf}
+use Rattle.rrt_star.specs.Solve.{solvedOf, solveOf}
+use Rattle.host.specs.Call.{starTold, starCall}
+use Rattle.host.proofs.Calls.{call-unknown, call-refused, call-solved}
+use Rattle.host.proofs.rindmosaic_star.Statement.{statement}
+use Rattle.host.proofs.rindmosaic_star.Tie as tie
+
+limits-in-requires : tie.Need-limits-in-requires
+limits-in-requires c κs = search needs
+
+start-in-requires : tie.Need-start-in-requires
+start-in-requires c κs = search needs
+
+goal-in-requires : tie.Need-goal-in-requires
+goal-in-requires c κs = search needs
+
+table-of-requires : tie.Need-table-of-requires
+table-of-requires c κs = search needs
+
+element-copy-out-t22 : tie.Need-element-copy-out-t22
+element-copy-out-t22 c = search needs
+
+element-copy-out-t22-2 : tie.Need-element-copy-out-t22-2
+element-copy-out-t22-2 c = search needs
+
+are-known-requires : tie.Need-are-known-requires
+are-known-requires c κs = search needs
+
+new-requires : tie.Need-new-requires
+new-requires c κs = search needs
+
+setup-requires : tie.Need-setup-requires
+setup-requires c κs = search needs
+
+number-requires : tie.Need-number-requires
+number-requires c κs = search needs
+
+solve-requires : tie.Need-solve-requires
+solve-requires c κs = search needs
+
+number-requires-2 : tie.Need-number-requires-2
+number-requires-2 c κs = search needs
+
+same-length : tie.Need-same-length
+same-length c = search needs
+
+returns : tie.Need-returns
+unfolding starCall
+returns c =
+    let solve = c .before .before .before in
+    let number = solve .before .before .before in
+    let made = number .before in
+    let known = made .before .before .before in
+    let table = known .before .before .before in
+    let goal = table .before in
+    let args = goal .before .before .before .before .before .args in
+    let is = rw (goal .goal-in .ensures, goal .before .start-in .ensures, goal .before .before .limits-in .ensures) at (made .setup .ensures) in
+    call-solved solveOf (starTold (now (args .setup)) (args .search-radius)) _ _ _ _ _ _ (table .table-of .ensures) _ (known .are-known .ensures) (made .before .before .if1 .taken) _ (made .before .new .ensures)
+    (answeredOf (made .setup .result)) is _ (number .number .ensures) (solve .before .before .if2 .taken) (solvedOf (solve .solve .result) _) (solve .solve .ensures) _ (c .number2 .ensures)
+
+refused-requires : tie.Need-refused-requires
+refused-requires c κs = search needs
+
+returns-2 : tie.Need-returns-2
+unfolding starCall
+returns-2 c =
+    let number = c .before .before in
+    let made = number .before in
+    let known = made .before .before .before in
+    let table = known .before .before .before in
+    let goal = table .before in
+    let args = goal .before .before .before .before .before .args in
+    let is = rw (goal .goal-in .ensures, goal .before .start-in .ensures, goal .before .before .limits-in .ensures) at (made .setup .ensures) in
+    call-refused solveOf (starTold (now (args .setup)) (args .search-radius)) _ _ _ _ _ _ (table .table-of .ensures) _ (known .are-known .ensures) (made .before .before .if1 .taken) _ (made .before .new .ensures)
+    (answeredOf (made .setup .result)) is _ (number .number .ensures) (c .before .if2 .left) _ (c .refused .ensures)
+
+refused-requires-2 : tie.Need-refused-requires-2
+refused-requires-2 c κs = search needs
+
+returns-3 : tie.Need-returns-3
+unfolding starCall
+returns-3 c =
+    let known = c .before .before in
+    let table = known .before .before .before in
+    let args = table .before .before .before .before .before .before .args in
+    call-unknown solveOf (starTold (now (args .setup)) (args .search-radius)) _ _ _ _ _ _ (table .table-of .ensures) _ (known .are-known .ensures) (c .before .if1 .left) _ (c .refused2 .ensures)
+
+pub rindmosaic-star-spec : {M : Type 1} → statement M
+rindmosaic-star-spec =
+    tie.close
+    (tie.spec
+    limits-in-requires
+    start-in-requires
+    goal-in-requires
+    table-of-requires
+    element-copy-out-t22
+    element-copy-out-t22-2
+    are-known-requires
+    new-requires
+    setup-requires
+    number-requires
+    solve-requires
+    number-requires-2
+    same-length
+    returns
+    refused-requires
+    returns-2
+    refused-requires-2
+    returns-3)

@@ -1,0 +1,101 @@
+// The calls on the RRT* planner.
+use grammar::Verb;
+use keep_out::KeepOuts;
+use output::nodes;
+use output::replies;
+use output::route_buffer;
+use rrt_star::CostAt;
+use rrt_star::RrtStar;
+use script::Line;
+use script::given;
+
+// Whether the call was made, and the planner after it.
+pub struct Called {
+    pub is_made: bool,
+    pub planner: RrtStar,
+}
+
+// One number more than the other tree planners: search_radius, after max_distance.
+fn setup(out: &mut [u8], planner: RrtStar, numbers: &[f64], table: KeepOuts) -> RrtStar {
+    let limits = given::limits(numbers);
+    let segment = given::length(numbers, 6);
+    let max_distance = given::length(numbers, 7);
+    let search_radius = given::length(numbers, 8);
+    let start = given::state(numbers, 9);
+    let goal = given::goal(numbers, 12);
+    let done = planner.setup(
+        limits,
+        segment,
+        max_distance,
+        search_radius,
+        start,
+        goal,
+        table,
+    );
+    let answer = done.answer;
+    replies::answered(out, answer, 0);
+    done.planner
+}
+
+// The route buffer is the first capacity numbers of a fresh one.
+fn solve(out: &mut [u8], planner: RrtStar, capacity: usize, samples: &[f64]) -> RrtStar {
+    let mut buffer = route_buffer::fresh();
+    let route = route_buffer::first(&mut buffer, capacity);
+    let done = planner.solve(samples, route);
+    let answer = done.answer;
+    replies::routed(out, answer, done.count, done.taken, route);
+    done.planner
+}
+
+// What a node costs, after its three numbers.
+fn cost(out: &mut [u8], used: usize, cost: CostAt) -> usize {
+    match cost {
+        CostAt::Cost(x) => {
+            let used = output::byte(out, used, b' ');
+            output::float(out, used, x)
+        }
+        CostAt::Nothing => used,
+    }
+}
+
+fn tables(out: &mut [u8], planner: RrtStar) {
+    let size = planner.size();
+    let mut used = nodes::heading(out, 0, b"tree", size);
+    let mut i: usize = 0;
+    while i < size {
+        used = nodes::node(out, used, i, planner.node(i));
+        used = cost(out, used, planner.cost(i));
+        used = output::byte(out, used, b'\n');
+        i += 1;
+    }
+    output::flush(out, used);
+}
+
+// The numbers are all that the line has.
+pub fn call(out: &mut [u8], planner: RrtStar, line: Line, numbers: &[f64]) -> Called {
+    let verb = line.verb;
+    match verb {
+        Verb::Setup => {
+            let table = line.table;
+            Called {
+                is_made: true,
+                planner: setup(out, planner, numbers, table),
+            }
+        }
+        Verb::Solve => Called {
+            is_made: true,
+            planner: solve(out, planner, line.capacity, numbers),
+        },
+        Verb::Tables => {
+            tables(out, planner);
+            Called {
+                is_made: true,
+                planner,
+            }
+        }
+        _ => Called {
+            is_made: false,
+            planner,
+        },
+    }
+}
