@@ -1,5 +1,5 @@
 -- `legs::mark` meets its contract.
-use lib.ListN.{length, length-set}
+use lib.ListN.{length-set}
 use Rattle.legs.proofs.Square.{mark-is}
 use borrow.Author.Needs.{needs}
 use Rattle.legs.proofs.mark.Statement.{statement}
