@@ -1,0 +1,75 @@
+-- The walk over a row, a word at a time: what the word at the place `at`, shifted to that place, tells of the row.
+use Prim.Native.Nat.{ℕ, _+_, _*_, _-_, _/_, _%_, _^_, _≤_, _<_}
+use mathlib.Core.Bool.{Bool, false}
+use mathlib.Core.List.{List}
+use mathlib.Core.Path.{_≡_, sym, _∙_, ap}
+use native.Mathlib.Omega.{arith}
+use native.Mathlib.Decide.{decLt}
+use lib.Count.{trailingZeros}
+use lib.ListN.{getD}
+use lib.Pow.{shr-lt, shr-le}
+use Rattle.legs.specs.Bits.{bitOf, legAt}
+use Rattle.legs.specs.Next.{Next}
+use Rattle.legs.proofs.Zeros.{tz-low, tz-bit, tz-lt, no-bits, shifted-bit}
+
+-- none is set from `from` on and before at
+abbrev pub Passed : (ℕ → Bool) → ℕ → ℕ → Type 0
+Passed row from at = (j : ℕ) → from ≤ j → j < at → row j ≡ false
+
+pub none-passed : (row : ℕ → Bool) (from : ℕ) → Passed row from from
+none-passed row from j a b = absurd (away a b)
+  where
+    away : {j from : ℕ} → from ≤ j → j < from → ⊥
+    away a b = omega arith
+
+-- a number from at on is at and some more
+beyond : (row : ℕ → Bool) (at j : ℕ) → at ≤ j → (b : Bool) → row (at + (j - at)) ≡ b → row j ≡ b
+beyond row at j h b e = let p : at + (j - at) ≡ j = omega arith in rw p at e
+
+module _ (legs : List ℕ) (i at word rest : ℕ) (is : word ≡ getD legs (4 * i + at / 64) 0) (small : word < 2 ^ 64) (shifted : rest ≡ word / 2 ^ (at % 64)) where
+  abbrev row : ℕ → Bool
+  row = legAt legs i
+
+  abbrev zeros : ℕ
+  zeros = trailingZeros 64 rest
+
+  row-here : (k : ℕ) → at % 64 + k < 64 → row (at + k) ≡ bitOf rest k
+  unfolding legAt
+  row-here k h =
+      let p : (at + k) / 64 ≡ at / 64 = omega arith in
+      let q : (at + k) % 64 ≡ at % 64 + k = omega arith in
+      rw (p, q, shifted, is) (sym (shifted-bit (getD legs (4 * i + at / 64) 0) (at % 64) k))
+
+  low : rest < 2 ^ (64 - at % 64)
+  low =
+      let p : 64 - at % 64 + at % 64 ≡ 64 = omega arith in
+      let q : word < 2 ^ (64 - at % 64 + at % 64) = rw p small in
+      rw shifted (shr-lt (64 - at % 64) (at % 64) q)
+
+  below : rest < 2 ^ 64
+  below = rw shifted (omega (arith, shr-le word (at % 64)))
+
+  pub zeros-few : 0 < rest → zeros < 64 - at % 64
+  zeros-few some = tz-lt 64 (64 - at % 64) rest some low (omega arith)
+
+  module _ (from : ℕ) (onward : from ≤ at) (inside : at < 256) (passed : Passed row from at) where
+    -- none is set before what is reached
+    further : (to : ℕ) → ((j : ℕ) → at ≤ j → j < to → row j ≡ false) → Passed row from to
+    further to h j a b = elim (decLt j at) [ yes p ↦ passed j a p | no p ↦ h j (omega arith) b ]
+
+    -- a word with a bit left: the lowest of them is next
+    pub found : 0 < rest → Next row from (at + zeros)
+    found some =
+        let few = zeros-few some in
+        record {
+          onward = omega arith;
+          within = omega arith;
+          passed = further (at + zeros) (λ j a b. beyond row at j a false (row-here (j - at) (omega arith) ∙ tz-low 64 rest (j - at) (omega arith)));
+          here = λ h. row-here zeros (omega arith) ∙ tz-bit 64 rest some below;
+        }
+
+    -- a word with none left is passed
+    pub no-more : rest ≡ 0 → Passed row from (64 * (at / 64 + 1))
+    no-more e =
+        further (64 * (at / 64 + 1))
+        (λ j a b. beyond row at j a false (row-here (j - at) (omega arith) ∙ ap (λ (x : ℕ). bitOf x (j - at)) e ∙ no-bits (j - at)))

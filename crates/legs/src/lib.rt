@@ -1,0 +1,55 @@
+// The legs of a roadmap: a square of bits, 256 rows of four words. The bit (i, j) says whether a leg joins the milestones i and j.
+ghost use mathlib.Core.Path.{_≡_};
+ghost use Prim.Native.Nat.{_≤_, _<_};
+ghost use lib.ListN.{length};
+ghost use Rattle.legs.specs.Bits.{legAt, Marked, Linked, Word};
+ghost use Rattle.legs.specs.Next.{Next};
+
+// Whether the leg from i to j stands.
+pub fn leg(legs: &[u64; 1024], i: usize, j: usize) -> bool
+    requires { ⌜ (i < 256) × (j < 256) ⌝ }
+    ensures { λ r. ⌜ r ≡ legAt (now (legs .entry)) i j ⌝ }
+{
+    (legs[4 * i + j / 64] >> (j % 64)) % 2 == 1
+}
+
+// Sets the bit (i, j).
+fn mark(legs: &mut [u64; 1024], i: usize, j: usize)
+    requires { ⌜ (i < 256) × (j < 256) × (length (now legs) ≡ 1024) ⌝ }
+    ensures { λ _. ⌜ Marked (now (legs .entry)) i j (now (legs .exit)) ⌝ }
+{
+    let at = 4 * i + j / 64;
+    legs[at] = legs[at] | (1 << (j % 64));
+}
+
+// Joins i and j: sets the bits (i, j) and (j, i).
+pub fn link(legs: &mut [u64; 1024], i: usize, j: usize)
+    requires { ⌜ (i < 256) × (j < 256) × (length (now legs) ≡ 1024) ⌝ }
+    ensures { λ _. ⌜ Linked (now (legs .entry)) i j (now (legs .exit)) ⌝ }
+{
+    mark(legs, i, j);
+    mark(legs, j, i);
+}
+
+// A word is below 2^64.
+fn word(x: u64) -> u64
+    ensures { λ r. ⌜ Word x r ⌝ }
+{
+    x
+}
+
+// The first neighbour of i from the number `from` on; 256 where there is none. So a row is walked in ascending order, a word at a time.
+pub fn next(legs: &[u64; 1024], i: usize, from: usize) -> usize
+    requires { ⌜ (i < 256) × (from ≤ 256) ⌝ }
+    ensures { λ r. ⌜ Next (legAt (now (legs .entry)) i) from r ⌝ }
+{
+    let mut at = from;
+    'words: while at < 256 {
+        let rest = word(legs[4 * i + at / 64]) >> (at % 64);
+        if rest != 0 {
+            return at + u64::trailing_zeros(rest) as usize;
+        }
+        at = 64 * (at / 64 + 1);
+    }
+    256
+}

@@ -1,0 +1,5 @@
+pub mod Keep
+pub mod Map
+pub mod Construct
+pub mod Closed
+pub mod View
