@@ -8,7 +8,7 @@ use Rattle.state.specs.declared.State.{State}
 use Rattle.roadmap.specs.Map.{markOf, addOf, flagsOf}
 use Rattle.roadmap.specs.Closed.{rowsOf, roadmapOf}
 
-map-snoc : {A B : Type 0} (f : A → B) (xs : List A) (y : A) → map f (xs ++ (y ∷ [])) ≡ map f xs ++ (f y ∷ [])
+pub map-snoc : {A B : Type 0} (f : A → B) (xs : List A) (y : A) → map f (xs ++ (y ∷ [])) ≡ map f xs ++ (f y ∷ [])
 map-snoc f [] y = refl
 map-snoc f (x ∷ xs) y = ap (λ l. f x ∷ l) (map-snoc f xs y)
 
