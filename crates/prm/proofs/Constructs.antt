@@ -1,0 +1,45 @@
+-- A construction's answer from its tests and its work.
+use mathlib.Core.Bool.{Bool, true, false}
+use mathlib.Core.List.{List}
+use mathlib.Core.Path.{_≡_, refl, sym, _∙_, ap}
+use lib.Ieee.{Float}
+use Rattle.answer.specs.declared.Answer.the-variants.{Uninitialised, BadInput}
+use Rattle.keep_out.specs.Table.{keepOutsOf}
+use Rattle.samples.specs.Samples.{goodSamples, samplesOf}
+use Rattle.plan.specs.Plan.{set}
+use Rattle.roadmap.specs.Construct as roadmap
+use Rattle.roadmap.specs.View.{milestonesOf, builtOf}
+use Rattle.roadmap.specs.declared.Built.{Built}
+use Rattle.roadmap.specs.declared.Roadmap.{Roadmap}
+use Rattle.prm.specs.declared.Prm.{Prm}
+use Rattle.prm.specs.Planner.{Given, givenBy, plannerOf}
+use Rattle.prm.specs.Construct.{Construction, constructOf}
+use Rattle.prm.proofs.Views.{view-set, view-unset}
+
+module _ (p : Prm) (samples : List Float) where
+  pub construct-unset : p .ready ≡ false → record { planner = plannerOf p; answer = Uninitialised; taken = 0 } ≡ constructOf (plannerOf p) samples
+  unfolding constructOf
+  construct-unset u = rw (view-unset p u)
+
+  module _ (u : p .ready ≡ true) where
+    pub construct-bad : goodSamples samples ≡ false → record { planner = plannerOf p; answer = BadInput; taken = 0 } ≡ constructOf (plannerOf p) samples
+    unfolding constructOf
+    construct-bad g = rw (view-set p u, g)
+
+    -- the planner with the roadmap that was built
+    abbrev with : Roadmap → Prm
+    with m = record { ready = p .ready; mount = p .mount; «connection_radius» = p .«connection_radius»; start = p .start; goal = p .goal; map = m }
+
+    abbrev given : Given
+    given = givenBy (p .mount) (p .«connection_radius») (p .start) (p .goal)
+
+    module _ (r : Built)
+        (is :
+        builtOf r
+        ≡ roadmap.constructOf (p .mount .limits) (p .mount .segment .value) (keepOutsOf (p .mount .table)) (p .«connection_radius» .value) (milestonesOf (p .map)) (samplesOf samples)) where
+      worked : goodSamples samples ≡ true → record { planner = set given (builtOf r .map); answer = builtOf r .answer; taken = builtOf r .taken } ≡ constructOf (plannerOf p) samples
+      unfolding constructOf
+      worked g = rw (view-set p u, g, ← is)
+
+      pub construct-done : goodSamples samples ≡ true → record { planner = plannerOf (with (r .map)); answer = r .answer; taken = r .taken } ≡ constructOf (plannerOf p) samples
+      construct-done g = rw (view-set (with (r .map)) u) (worked g)

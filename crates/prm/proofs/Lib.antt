@@ -1,0 +1,5 @@
+-- The crate's laws that belong to no one function.
+pub mod Views
+pub mod Setups
+pub mod Constructs
+pub mod Queries
