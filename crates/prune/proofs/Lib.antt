@@ -1,0 +1,4 @@
+pub mod Keep
+pub mod Points
+pub mod Turns
+pub mod Pruning

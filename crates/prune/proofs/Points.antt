@@ -1,0 +1,53 @@
+-- The walk over a motion's checked points: what one turn of its loop does to the definition, and the cases of the test.
+use Prim.Native.Nat.{ℕ, suc, _+_, _-_, _≤_, _<_}
+use mathlib.Core.Bool.{Bool, true, false, cond}
+use mathlib.Core.Path.{_≡_, refl, sym, _∙_}
+use native.Mathlib.Omega.{arith}
+use borrow.Author.Tests.{le-leb, lt-leb}
+use lib.Ieee.{Float}
+use Rattle.state.specs.declared.State.{State}
+use Rattle.keep_out.specs.Covers.{coversOf}
+use Rattle.keep_out.specs.declared.KeepOut.{KeepOut}
+use Rattle.motion.specs.declared.Steps.the-variants.{Count, Many}
+use Rattle.motion.specs.Points.{partWay, partWays, testedOf, stepsOf, checkedAt, checkedOf}
+use Rattle.prune.specs.Hit.{meetsOf, hitAmong, hitOf}
+
+module _ (k : KeepOut) (from to : State) (n : ℕ) where
+  -- what is left of the walk at the i-th point
+  abbrev pub metAt : ℕ → Bool
+  metAt i = meetsOf k (partWays from to n i (n + 1 - i))
+
+  pub met-end : (i : ℕ) → n < i → metAt i ≡ false
+  unfolding meetsOf partWays
+  met-end i h = let j : n + 1 - i ≡ 0 = omega arith in rw j
+
+  module _ (i : ℕ) (s : State) (h : i ≤ n) (is : s ≡ partWay from to n i) where
+    at-point : metAt i ≡ cond (coversOf k s) true (metAt (i + 1))
+    unfolding meetsOf partWays
+    at-point = let j : n + 1 - i ≡ suc (n + 1 - (i + 1)) = omega arith in rw (j, ← is)
+
+    pub met-stop : coversOf k s ≡ true → metAt i ≡ true
+    met-stop e = at-point ∙ rw e
+
+    pub met-past : coversOf k s ≡ false → metAt i ≡ metAt (i + 1)
+    met-past e = at-point ∙ rw e
+
+module _ (segment : Float) (k : KeepOut) (from to : State) where
+  pub hit-many : Many ≡ stepsOf segment from to → false ≡ hitOf segment k from to
+  unfolding hitOf checkedOf checkedAt hitAmong
+  hit-many e = rw (← e)
+
+  module _ (n : ℕ) (e : Count n ≡ stepsOf segment from to) where
+    either : (b : Bool) → cond b true false ≡ b
+    either true = refl
+    either false = refl
+
+    pub hit-near : n ≤ 1 → coversOf k to ≡ hitOf segment k from to
+    unfolding hitOf checkedOf checkedAt hitAmong testedOf meetsOf
+    hit-near h = rw (← e, le-leb n 1 h) (sym (either (coversOf k to)))
+
+    pub hit-walk : 1 < n → hitOf segment k from to ≡ metAt k from to n 1
+    unfolding hitOf checkedOf checkedAt hitAmong testedOf
+    hit-walk h =
+        let j : n + 1 - 1 ≡ n = omega arith in
+        rw (← e, lt-leb n 1 h, j)
