@@ -28,3 +28,8 @@ leavesOf gone hit kept before (m ∷ ms) =
 -- what a new keep-out leaves of a roadmap
 unfoldable pub prunedOf : Float → KeepOut → List Milestone → List Milestone
 prunedOf segment k ms = leavesOf (coversOf k) (hitOf segment k) [] [] ms
+
+-- what further ones leave, one by one
+unfoldable pub prunedByAll : Float → List KeepOut → List Milestone → List Milestone
+prunedByAll segment [] ms = ms
+prunedByAll segment (k ∷ ks) ms = prunedByAll segment ks (prunedOf segment k ms)
