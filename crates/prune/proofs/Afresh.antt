@@ -1,6 +1,6 @@
 -- What a keep-out leaves of a roadmap in closed form is the closed form of what stays (`leaves-closed`). `joins`, `gone` and `hit` are
 -- any tests.
-use mathlib.Core.Bool.{Bool, true, false, not, _&&_, cond}
+use mathlib.Core.Bool.{Bool, false, not, _&&_, cond}
 use mathlib.Core.List.{List, [], _∷_, _++_, map, append-nil, append-assoc}
 use mathlib.Core.Path.{_≡_, refl, _∙_, ap}
 use Rattle.laws.specs.Order.{whether}

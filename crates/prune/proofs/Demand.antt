@@ -2,7 +2,7 @@
 -- construction afresh from the same samples under the longer list, which is done too (`one-keep-out-more`). So for any further
 -- keep-outs, one by one (`demand-3`).
 use Prim.Native.Nat.{_≤_}
-use mathlib.Core.Bool.{Bool, not, _&&_}
+use mathlib.Core.Bool.{Bool, not}
 use mathlib.Core.List.{List, [], _∷_, _++_, append-nil, append-assoc}
 use mathlib.Core.Path.{_≡_, refl, sym, _∙_, ap, ap₂, fun-ext}
 use native.Mathlib.Omega.{arith}

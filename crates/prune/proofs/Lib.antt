@@ -5,3 +5,4 @@ pub mod Pruning
 pub mod More
 pub mod Afresh
 pub mod Demand
+pub mod Goes

@@ -17,7 +17,7 @@ use Rattle.roadmap.specs.View.{spanOf, stateIn, viewOf, milestonesOf, Clean, Jo
 use Rattle.roadmap.proofs.View.{clean}
 use Rattle.roadmap.proofs.Grows.{view-add, clean-add}
 use Rattle.prune.specs.Hit.{hitOf}
-use Rattle.prune.specs.Prune.{leftOf, leavesOf, prunedOf}
+use Rattle.prune.specs.Prune.{prunedOf}
 use Rattle.prune.proofs.Turns.{itself, stands, old-more, old-below, left-kept, kept-gone, kept-more, leavesAt, turn-gone, turn-kept, turn-end}
 
 module _ (map : Roadmap) where

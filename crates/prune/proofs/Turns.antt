@@ -15,7 +15,7 @@ use Rattle.roadmap.specs.Map.{Milestone, addOf}
 use Rattle.roadmap.specs.View.{spanOf}
 use Rattle.roadmap.proofs.Span.{span-snoc, span-same, span-map}
 use Rattle.prune.specs.Prune.{leftOf, leavesOf}
-use Rattle.prune.proofs.Keep.{keep-append, keep-yes, keep-not}
+use Rattle.prune.proofs.Keep.{keep-append}
 
 -- the numbers of a table
 abbrev pub itself : ℕ → ℕ

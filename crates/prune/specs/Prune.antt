@@ -1,12 +1,15 @@
 -- Document 01, "Adding a keep-out". Milestones now covered go; the rest keep bits and order and are renumbered from 0. A leg between two
 -- that stay goes exactly if the keep-out hits it, the motion from the newer to the older. Only the new keep-out is tested, and only
 -- against what stands.
+use Prim.Native.Nat.{ℕ}
 use mathlib.Core.Bool.{Bool, not, _&&_, cond}
 use mathlib.Core.List.{List, [], _∷_, _++_}
+use lib.ListN.{length, take}
 use lib.Ieee.{Float}
 use Rattle.state.specs.declared.State.{State}
 use Rattle.keep_out.specs.Covers.{coversOf}
 use Rattle.keep_out.specs.declared.KeepOut.{KeepOut}
+use Rattle.roadmap.specs.Keep.{keepOf}
 use Rattle.roadmap.specs.Map.{Milestone, addOf}
 use Rattle.prune.specs.Hit.{hitOf}
 
@@ -33,3 +36,7 @@ prunedOf segment k ms = leavesOf (coversOf k) (hitOf segment k) [] [] ms
 unfoldable pub prunedByAll : Float → List KeepOut → List Milestone → List Milestone
 prunedByAll segment [] ms = ms
 prunedByAll segment (k ∷ ks) ms = prunedByAll segment ks (prunedOf segment k ms)
+
+-- the new number of the i-th of the milestones at these states: how many before it stay
+unfoldable pub placeOf : KeepOut → List State → ℕ → ℕ
+placeOf k states i = length (keepOf (λ (s : State). not (coversOf k s)) (take i states))
