@@ -3,3 +3,5 @@ pub mod Views
 pub mod Setups
 pub mod Constructs
 pub mod Queries
+pub mod Adds
+pub mod Demand

@@ -1,3 +1,4 @@
 pub mod Planner
 pub mod Construct
 pub mod Query
+pub mod Adding

@@ -1,5 +1,6 @@
 // PRM (document 01, "PRM construction", "PRM query" and "Sizes and answers"): a roadmap of valid samples, and queries over it.
 use answer::Answer;
+use keep_out::KeepOut;
 use keep_out::KeepOuts;
 use motion::Mount;
 use roadmap::MilestoneAt;
@@ -11,6 +12,7 @@ use state::State;
 ghost use mathlib.Core.Path.{_≡_};
 ghost use Rattle.prm.specs.Planner.{plannerOf, newOf, setupOf, answeredOf, goalsOf, sizeOf, milestoneOf, legOf};
 ghost use Rattle.prm.specs.Construct.{constructedOf, constructOf};
+ghost use Rattle.prm.specs.Adding.{addOf};
 ghost use Rattle.prm.specs.Query.{queriedOf, queryOf};
 
 // What an accepted setup gave, with start and goal as last replaced, and the roadmap that has been built since.
@@ -207,6 +209,41 @@ impl Prm {
             return refused(Answer::InvalidStart);
         }
         refused(Answer::Uninitialised)
+    }
+
+    // Adds a keep-out. What it covers goes: milestones, and legs by their checked points.
+    pub fn add_keep_out(self, k: KeepOut) -> Answered
+        ensures { λ r. ⌜ answeredOf r ≡ addOf (plannerOf self) k ⌝ }
+    {
+        let mount = self.mount;
+        let map = self.map;
+        if self.ready {
+            let more = plan::with_keep_out(mount.table, k);
+            let table = more.table;
+            let answer = more.answer;
+            if answer.number() == 0 {
+                let limits = mount.limits;
+                let segment = mount.segment;
+                let left = prune::pruned(map, k, segment.value);
+                let longer = Mount {
+                    limits,
+                    segment,
+                    table,
+                };
+                let mut planner = self;
+                planner.mount = longer;
+                planner.map = left;
+                return Answered { planner, answer };
+            }
+            return Answered {
+                planner: self,
+                answer,
+            };
+        }
+        Answered {
+            planner: self,
+            answer: Answer::Uninitialised,
+        }
     }
 
     // How many milestones there are; none before an accepted setup.
