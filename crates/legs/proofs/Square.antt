@@ -70,21 +70,33 @@ pair-not : (a i b j : ℕ) → (a ≡ i → b ≡ j → ⊥) → eqb a i && eqb 
 pair-not a i b j h = elim (ℕ-discrete a i) [ yes p ↦ and-false (eqb a i) (eqb b j) (ne-eqb b j (h p)) | no p ↦ rw (ne-eqb a i p) ]
 
 pair-low : (a i b j : ℕ) → a ≡ i → b / 64 ≡ j / 64 → eqb (b % 64) (j % 64) ≡ eqb a i && eqb b j
-pair-low a i b j p q = elim (ℕ-discrete b j) [ yes e ↦ rw (eq-eqb a i p, eq-eqb b j e, eq-eqb (b % 64) (j % 64) (ap (λ (x : ℕ). x % 64) e)) | no e ↦ rw (eq-eqb a i p, ne-eqb b j e, ne-eqb (b % 64) (j % 64) (λ z. e (omega arith))) ]
+pair-low a i b j p q =
+    elim (ℕ-discrete b j) [
+      | yes e ↦ rw (eq-eqb a i p, eq-eqb b j e, eq-eqb (b % 64) (j % 64) (ap (λ (x : ℕ). x % 64) e))
+      | no e ↦ rw (eq-eqb a i p, ne-eqb b j e, ne-eqb (b % 64) (j % 64) (λ z. e (omega arith)))
+    ]
 
 module _ (words : List ℕ) (i j : ℕ) (long : length words ≡ 1024) (hi : i < 256) (hj : j < 256) where
+  -- the place of the word that changes, and the word as it is then
+  abbrev place : ℕ
+  place = 4 * i + j / 64
+
+  abbrev changed : ℕ
+  changed = bitOr (getD words place 0) ((1 * 2 ^ (j % 64)) % 18446744073709551616)
+
   abbrev marked : List ℕ
-  marked = set words (4 * i + j / 64) (bitOr (getD words (4 * i + j / 64) 0) ((1 * 2 ^ (j % 64)) % 18446744073709551616))
+  marked = set words place changed
 
   same : (a b : ℕ) → b < 256 → 4 * a + b / 64 ≡ 4 * i + j / 64 → legAt marked a b ≡ legAt words a b || (eqb a i && eqb b j)
   unfolding legAt
   same a b hb e =
-      rw (e, getD-set-same words (4 * i + j / 64) (bitOr (getD words (4 * i + j / 64) 0) ((1 * 2 ^ (j % 64)) % 18446744073709551616)) 0 (omega arith), with-bit (getD words (4 * i + j / 64) 0) (j % 64) (b % 64) (omega arith), pair-low a i b j (omega arith) (omega arith))
+      let here = getD-set-same words place changed 0 (omega arith) in
+      rw (e, here, with-bit (getD words place 0) (j % 64) (b % 64) (omega arith), pair-low a i b j (omega arith) (omega arith))
 
   other : (a b : ℕ) → (4 * a + b / 64 ≡ 4 * i + j / 64 → ⊥) → legAt marked a b ≡ legAt words a b || (eqb a i && eqb b j)
   unfolding legAt
   other a b e =
-      rw (getD-set-other words (4 * i + j / 64) (4 * a + b / 64) (bitOr (getD words (4 * i + j / 64) 0) ((1 * 2 ^ (j % 64)) % 18446744073709551616)) 0 e, pair-not a i b j (λ p q. e (rw (p, q))))
+      rw (getD-set-other words place (4 * a + b / 64) changed 0 e, pair-not a i b j (λ p q. e (rw (p, q))))
       (sym (or-false (bitOf (getD words (4 * a + b / 64) 0) (b % 64))))
 
   pub mark-is : (a b : ℕ) → a < 256 → b < 256 → legAt marked a b ≡ legAt words a b || (eqb a i && eqb b j)

@@ -23,7 +23,9 @@ not-two r h = omega arith
 no-lower : (k : ℕ) → k < 0 → ⊥
 no-lower k h = omega arith
 
-low-one : (d n k r : ℕ) → n % 2 ≡ r → r < 2 → ((k : ℕ) → k < trailingZeros d (n / 2) → bitOf (n / 2) k ≡ false) → k < under r (trailingZeros d (n / 2)) → bitOf n k ≡ false
+low-one :
+    (d n k r : ℕ) → n % 2 ≡ r → r < 2 → ((k : ℕ) → k < trailingZeros d (n / 2) → bitOf (n / 2) k ≡ false) →
+    k < under r (trailingZeros d (n / 2)) → bitOf n k ≡ false
 low-one d n zero zero e h ih l = first-bit n 0 e
 low-one d n (suc k) zero e h ih l = next-bit n k ∙ ih k (omega arith)
 low-one d n k (suc zero) e h ih l = absurd (no-lower k l)

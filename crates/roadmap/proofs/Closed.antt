@@ -41,11 +41,15 @@ module _ (limits : Limits) (segment : Float) (ks : List KeepOut) (radius : Float
   unfolding runOf
   passed xs taken s ss e = rw e
 
-  added : (xs : List State) (taken : ℕ) (s : State) (ss : List State) → validOf limits ks s ≡ true → length xs < 256 → run xs taken (s ∷ ss) ≡ run (xs ++ (s ∷ [])) (taken + 1) ss
+  added :
+      (xs : List State) (taken : ℕ) (s : State) (ss : List State) → validOf limits ks s ≡ true → length xs < 256 →
+      run xs taken (s ∷ ss) ≡ run (xs ++ (s ∷ [])) (taken + 1) ss
   unfolding runOf
   added xs taken s ss e h = rw (e, roadmap-long joins xs, lt-ltb (length xs) 256 h, add-flags joins xs s)
 
-  over : (xs : List State) (taken : ℕ) (s : State) (ss : List State) → validOf limits ks s ≡ true → 256 ≤ length xs → run xs taken (s ∷ ss) ≡ record { map = []; answer = Full; taken = taken + 1 }
+  over :
+      (xs : List State) (taken : ℕ) (s : State) (ss : List State) → validOf limits ks s ≡ true → 256 ≤ length xs →
+      run xs taken (s ∷ ss) ≡ record { map = []; answer = Full; taken = taken + 1 }
   unfolding runOf
   over xs taken s ss e h = rw (e, roadmap-long joins xs, le-ltb (length xs) 256 h)
 

@@ -29,7 +29,9 @@ module _ (az el feed : List Float) (old : List ℕ) (n : ℕ) (f : ℕ → Bool)
   feed′ = set feed n (s .feed)
 
   cell : (a b : ℕ) → a < n → b < n → legAt now a b ≡ legAt old a b
-  cell a b ha hb = joins .is a b (omega arith) (omega arith) ∙ rw (ne-eqb a n (λ e. omega arith), ne-eqb b n (λ e. omega arith)) (or-none (legAt old a b || false) ∙ or-none (legAt old a b))
+  cell a b ha hb =
+      joins .is a b (omega arith) (omega arith)
+      ∙ rw (ne-eqb a n (λ e. omega arith), ne-eqb b n (λ e. omega arith)) (or-none (legAt old a b || false) ∙ or-none (legAt old a b))
 
   cell-column : (a : ℕ) → a < n → legAt now a n ≡ f a
   cell-column a ha = joins .is a n (omega arith) room ∙ rw (clean .column a n (omega arith) room (omega arith), ne-eqb a n (λ e. omega arith), eq-eqb n n refl, lt-ltb a n ha)
@@ -53,12 +55,15 @@ module _ (az el feed : List Float) (old : List ℕ) (n : ℕ) (f : ℕ → Bool)
   row-old : (a : ℕ) → a < n → spanOf 0 (suc n) (λ (j : ℕ). legAt now a j) ≡ spanOf 0 n (λ (j : ℕ). legAt old a j) ++ (f a ∷ [])
   row-old a ha =
       span-snoc 0 n (λ (j : ℕ). legAt now a j)
-      ∙ ap₂ (λ (l : List Bool) (x : Bool). l ++ (x ∷ [])) (span-same 0 n (λ (j : ℕ). legAt now a j) (λ (j : ℕ). legAt old a j) (λ j _ h. cell a j ha (omega arith))) (let e : 0 + n ≡ n = omega arith in rw e (cell-column a ha))
+      ∙ ap₂ (λ (l : List Bool) (x : Bool). l ++ (x ∷ []))
+      (span-same 0 n (λ (j : ℕ). legAt now a j) (λ (j : ℕ). legAt old a j) (λ j _ h. cell a j ha (omega arith)))
+      (let e : 0 + n ≡ n = omega arith in rw e (cell-column a ha))
 
   row-new : spanOf 0 (suc n) (λ (j : ℕ). legAt now n j) ≡ spanOf 0 n f ++ (false ∷ [])
   row-new =
       span-snoc 0 n (λ (j : ℕ). legAt now n j)
-      ∙ ap₂ (λ (l : List Bool) (x : Bool). l ++ (x ∷ [])) (span-same 0 n (λ (j : ℕ). legAt now n j) f (λ j _ h. cell-row j (omega arith))) (let e : 0 + n ≡ n = omega arith in rw e cell-last)
+      ∙ ap₂ (λ (l : List Bool) (x : Bool). l ++ (x ∷ [])) (span-same 0 n (λ (j : ℕ). legAt now n j) f (λ j _ h. cell-row j (omega arith)))
+      (let e : 0 + n ≡ n = omega arith in rw e cell-last)
 
   abbrev entry : ℕ → Milestone
   entry a = record { at = stateIn az′ el′ feed′ a; legs = spanOf 0 (suc n) (λ (j : ℕ). legAt now a j) }
@@ -77,13 +82,17 @@ module _ (az el feed : List Float) (old : List ℕ) (n : ℕ) (f : ℕ → Bool)
   view-add =
       rw (add-one n)
       (span-snoc 0 n entry
-      ∙ ap₂ (λ (l : List Milestone) (x : Milestone). l ++ (x ∷ [])) (span-same 0 n entry grown (λ j _ h. entry-old j (omega arith)) ∙ sym (span-mark 0 n (stateIn az el feed) (λ (i : ℕ). spanOf 0 n (λ (j : ℕ). legAt old i j)) f)) entry-new)
+      ∙ ap₂ (λ (l : List Milestone) (x : Milestone). l ++ (x ∷ []))
+      (span-same 0 n entry grown (λ j _ h. entry-old j (omega arith))
+      ∙ sym (span-mark 0 n (stateIn az el feed) (λ (i : ℕ). spanOf 0 n (λ (j : ℕ). legAt old i j)) f)) entry-new)
 
   pub clean-add : Clean now (n + 1)
   clean-add =
       record {
         row = λ a b ha hb h. joins .is a b ha hb ∙ rw (clean .row a b ha hb (omega arith), ne-eqb a n (λ e. omega arith), le-ltb a n (omega arith)) (nothing (eqb b n));
-        column = λ a b ha hb h. joins .is a b ha hb ∙ rw (clean .column a b ha hb (omega arith), ne-eqb b n (λ e. omega arith), le-ltb b n (omega arith)) (or-none (eqb a n && false) ∙ nothing (eqb a n));
+        column =
+            λ a b ha hb h. joins .is a b ha hb
+            ∙ rw (clean .column a b ha hb (omega arith), ne-eqb b n (λ e. omega arith), le-ltb b n (omega arith)) (or-none (eqb a n && false) ∙ nothing (eqb a n));
       }
     where
       nothing : (x : Bool) → x && false ≡ false

@@ -8,3 +8,4 @@ pub mod Runs
 pub mod Rows
 pub mod Closed
 pub mod Between
+pub mod Constructed

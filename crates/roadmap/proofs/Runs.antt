@@ -105,7 +105,8 @@ module _ {limits : Limits} {segment : Float} {ks : List KeepOut} {radius : Float
             az′ ≡ set az n (sample .az) → el′ ≡ set el n (sample .el) → feed′ ≡ set feed n (sample .feed) → n′ ≡ n + 1 →
             Building limits segment ks radius l az′ el′ feed′ legs′ n′ (at + 3) (taken + 1)
         build-added e k joins p q r v =
-            let grows = view-add az el feed legs n (λ (j : ℕ). joinedOf limits segment ks radius sample (stateIn az el feed j)) legs′ sample (h .az-sized) (h .el-sized) (h .feed-sized) k (h .clean) joins in
+            let reached : ℕ → Bool = λ j. joinedOf limits segment ks radius sample (stateIn az el feed j) in
+            let grows = view-add az el feed legs n reached legs′ sample (h .az-sized) (h .el-sized) (h .feed-sized) k (h .clean) joins in
             let flags = view-flags az el feed legs n (joinedOf limits segment ks radius) sample in
             rw (p, q, r, v)
             record {

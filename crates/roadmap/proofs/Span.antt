@@ -47,7 +47,10 @@ module _ {A B : Type 0} where
   span-map i zero f g = refl
   span-map i (suc n) f g = ap (λ (l : List B). g (f i) ∷ l) (span-map (i + 1) n f g)
 
-pub span-mark : (i n : ℕ) (at : ℕ → State) (legs : ℕ → List Bool) (f : ℕ → Bool) → markOf (spanOf i n (λ (j : ℕ). record { at = at j; legs = legs j })) (spanOf i n f) ≡ spanOf i n (λ (j : ℕ). record { at = at j; legs = legs j ++ (f j ∷ []) })
+-- each entry's mark for a new milestone
+pub span-mark :
+    (i n : ℕ) (at : ℕ → State) (legs : ℕ → List Bool) (f : ℕ → Bool) →
+    markOf (spanOf i n (λ (j : ℕ). record { at = at j; legs = legs j })) (spanOf i n f) ≡ spanOf i n (λ (j : ℕ). record { at = at j; legs = legs j ++ (f j ∷ []) })
 unfolding spanOf markOf
 span-mark i zero at legs f = refl
 span-mark i (suc n) at legs f = ap (λ (l : List (Milestone)). record { at = at i; legs = legs i ++ (f i ∷ []) } ∷ l) (span-mark (i + 1) n at legs f)

@@ -11,5 +11,6 @@ rowsOf joins before [] = []
 rowsOf joins before (s ∷ after) =
     record { at = s; legs = map (joins s) before ++ (false ∷ map (λ (t : State). joins t s) after) } ∷ rowsOf joins (before ++ (s ∷ [])) after
 
+-- all of them, after none
 unfoldable pub roadmapOf : (State → State → Bool) → List State → List Milestone
 roadmapOf joins states = rowsOf joins [] states

@@ -38,6 +38,7 @@ runOf limits segment ks radius ms taken (s ∷ ss) =
     let full : Constructed = record { map = []; answer = Full; taken = taken + 1 } in
     cond (validOf limits ks s) (cond (ltb (length ms) 256) added full) passed
 
+-- a roadmap that is empty is built of the samples; another is kept
 unfoldable pub constructOf : Limits → Float → List KeepOut → Float → List Milestone → List State → Constructed
 constructOf limits segment ks radius ms samples =
     let run = runOf limits segment ks radius [] 0 samples in

@@ -30,6 +30,7 @@ viewOf az el feed legs n = spanOf 0 n (λ (i : ℕ). record { at = stateIn az el
 unfoldable pub milestonesOf : Roadmap → List Milestone
 milestonesOf m = viewOf (m .az) (m .el) (m .feed) (m .legs) (min (m .count) 256)
 
+-- what a construction gave to its caller
 abbrev pub builtOf : Built → Constructed
 builtOf r = record { map = milestonesOf (r .map); answer = r .answer; taken = r .taken }
 

@@ -21,7 +21,9 @@ pub record Pushing (row : ℕ → Bool) (count f : ℕ) (order₀ from₀ : List
   -- what is to be queued of all is what is still to be queued
   pub is : pushOf f (queueOf order₀ from₀ n₀) (numbersOf 0 (spanOf 0 count row)) ≡ pushOf f (queueOf order from n) (left row count v)
 
-pub pushing-starts : (row : ℕ → Bool) (count f : ℕ) (marks : List Bool) (order from : List ℕ) (n : ℕ) → Queue count marks order from n → Pushing row count f order from n 0 marks order from n
+pub pushing-starts :
+    (row : ℕ → Bool) (count f : ℕ) (marks : List Bool) (order from : List ℕ) (n : ℕ) → Queue count marks order from n →
+    Pushing row count f order from n 0 marks order from n
 pushing-starts row count f marks order from n queue =
     let e : count - 0 ≡ count = omega arith in
     record { queue = queue; more = omega arith; is = rw e }
@@ -34,7 +36,8 @@ module _ {row : ℕ → Bool} {count f : ℕ} {order₀ from₀ : List ℕ} {n�
   module _ {marks′ : List Bool} {order′ from′ : List ℕ} {n′ : ℕ} where
     -- one that is set is queued
     pub pushing-took :
-        v < count → row v ≡ true → Pushed count order from n f (v ∷ []) marks′ order′ from′ n′ → Pushing row count f order₀ from₀ n₀ (v + 1) marks′ order′ from′ n′
+        v < count → row v ≡ true → Pushed count order from n f (v ∷ []) marks′ order′ from′ n′ →
+        Pushing row count f order₀ from₀ n₀ (v + 1) marks′ order′ from′ n′
     pushing-took l e p =
         record {
           queue = p .queue;
@@ -46,7 +49,8 @@ module _ {row : ℕ → Bool} {count f : ℕ} {order₀ from₀ : List ℕ} {n�
 
     -- one that is not set is passed
     pub pushing-passed :
-        v < count → row v ≡ false → marks′ ≡ marks → order′ ≡ order → from′ ≡ from → n′ ≡ n → Pushing row count f order₀ from₀ n₀ (v + 1) marks′ order′ from′ n′
+        v < count → row v ≡ false → marks′ ≡ marks → order′ ≡ order → from′ ≡ from → n′ ≡ n →
+        Pushing row count f order₀ from₀ n₀ (v + 1) marks′ order′ from′ n′
     pushing-passed l e a b c d =
         rw (a, b, c, d) record { queue = h .queue; more = h .more; is = h .is ∙ ap (pushOf f q) (numbers-not row count v l e) }
 

@@ -44,11 +44,11 @@ queued-snoc [] v f w = or-none (eqb v w)
     or-none : (b : Bool) → b || false ≡ b
     or-none true = refl
     or-none false = refl
-queued-snoc (p ∷ q) v f w = go (eqb (p .number) w) (queued-snoc q v f w)
+queued-snoc (p ∷ q) v f w = go (eqb (p .number) w) _ (queuedOf q w) (eqb v w) (queued-snoc q v f w)
   where
-    go : (b : Bool) → queuedOf (q ++ (record { number = v; from = f } ∷ [])) w ≡ queuedOf q w || eqb v w → b || queuedOf (q ++ (record { number = v; from = f } ∷ [])) w ≡ b || queuedOf q w || eqb v w
-    go true e = refl
-    go false e = e
+    go : (b x y z : Bool) → x ≡ y || z → b || x ≡ b || y || z
+    go true x y z e = refl
+    go false x y z e = e
 
 push-yes : (f : ℕ) (q : List Place) (v : ℕ) → queuedOf q v ≡ true → pushOf f q (v ∷ []) ≡ q
 unfolding pushOf
@@ -75,10 +75,17 @@ module _ (top : ℕ) (marks : List Bool) (order from : List ℕ) (n v f : ℕ) (
     abbrev q : List Place
     q = queueOf order from n
 
-    entry-old : (p : ℕ) → p < n → _≡_ {A = Place} (record { number = getD (set order n v) p 0; from = getD (set from n f) p 0 }) (record { number = getD order p 0; from = getD from p 0 })
+    -- the places before and after the stores
+    abbrev was : ℕ → Place
+    was p = record { number = getD order p 0; from = getD from p 0 }
+
+    abbrev is : ℕ → Place
+    is p = record { number = getD (set order n v) p 0; from = getD (set from n f) p 0 }
+
+    entry-old : (p : ℕ) → p < n → is p ≡ was p
     entry-old p h = rw (getD-set-other order n p v 0 (λ z. omega arith), getD-set-other from n p f 0 (λ z. omega arith))
 
-    entry-new : _≡_ {A = Place} (record { number = getD (set order n v) (0 + n) 0; from = getD (set from n f) (0 + n) 0 }) (record { number = v; from = f })
+    entry-new : is (0 + n) ≡ record { number = v; from = f }
     entry-new =
         let z : 0 + n ≡ n = omega arith in
         let h = room e in
@@ -88,11 +95,15 @@ module _ (top : ℕ) (marks : List Bool) (order from : List ℕ) (n v f : ℕ) (
     unfolding queueOf
     queue-snoc =
         rw (add-one n)
-        (span-snoc 0 n (λ (p : ℕ). record { number = getD (set order n v) p 0; from = getD (set from n f) p 0 })
-        ∙ ap₂ (λ (l : List Place) (x : Place). l ++ (x ∷ [])) (span-same 0 n (λ (p : ℕ). record { number = getD (set order n v) p 0; from = getD (set from n f) p 0 }) (λ (p : ℕ). record { number = getD order p 0; from = getD from p 0 }) (λ j a b. entry-old j (omega arith))) entry-new)
+        (span-snoc 0 n is
+        ∙ ap₂ (λ (l : List Place) (x : Place). l ++ (x ∷ [])) (span-same 0 n is was (λ j a b. entry-old j (omega arith))) entry-new)
 
     marks-same : (w : ℕ) → w < 256 → getD (set marks v true) w false ≡ queuedOf q w || eqb v w
-    marks-same w hw = elim (ℕ-discrete w v) [ yes p ↦ rw (p, getD-set-same marks v true false (omega (arith, queue .marked)), eq-eqb v v refl) (or-true (queuedOf q v)) | no p ↦ rw (getD-set-other marks v w true false p, ne-eqb v w (λ z. p (sym z)), queue .is w hw) (or-none (queuedOf q w)) ]
+    marks-same w hw =
+        elim (ℕ-discrete w v) [
+          | yes p ↦ rw (p, getD-set-same marks v true false (omega (arith, queue .marked)), eq-eqb v v refl) (or-true (queuedOf q v))
+          | no p ↦ rw (getD-set-other marks v w true false p, ne-eqb v w (λ z. p (sym z)), queue .is w hw) (or-none (queuedOf q w))
+        ]
       where
         or-true : (b : Bool) → true ≡ b || true
         or-true true = refl

@@ -100,7 +100,8 @@ module _ {goal : Goal} {az el feed : List Float} {legs : List ℕ} {count : ℕ}
       states : map (λ (p : Place). seen (p .number)) (spanOf 0 n (placeIn order from)) ≡ map (λ (p : Place). at (p .number)) (spanOf 0 n (placeIn order from))
       states =
           span-map 0 n (placeIn order from) (λ (p : Place). seen (p .number))
-          ∙ span-same 0 n (λ (j : ℕ). seen (getD order j 0)) (λ (j : ℕ). at (getD order j 0)) (λ j a b. ap (λ (m : Milestone). m .at) (view-at az el feed legs count (getD order j 0) (h .queue .low j (omega arith))))
+          ∙ span-same 0 n (λ (j : ℕ). seen (getD order j 0)) (λ (j : ℕ). at (getD order j 0))
+          (λ j a b. ap (λ (m : Milestone). m .at) (view-at az el feed legs count (getD order j 0) (h .queue .low j (omega arith))))
           ∙ sym (span-map 0 n (placeIn order from) (λ (p : Place). at (p .number)))
 
 -- the query from the queue of the start connections

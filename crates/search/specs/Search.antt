@@ -30,6 +30,7 @@ pub record Place : Type 0 where
   pub number : ℕ
   pub from : ℕ
 
+-- the place p
 unfoldable pub placeAt : List Place → ℕ → Place
 placeAt q p = getD q p (record { number = 0; from = 0 })
 

@@ -13,7 +13,14 @@ mark-requires-2 : tie.Need-mark-requires-2
 mark-requires-2 c κs = search needs
 
 returns : tie.Need-returns
-returns c = record { long = c .mark2 .ensures .long ∙ c .before .before .mark .ensures .long; is = λ a b ha hb. c .mark2 .ensures .is a b ha hb ∙ ap (λ (x : Bool). x || (eqb a (c .before .before .before .before .args .j) && eqb b (c .before .before .before .before .args .i))) (c .before .before .mark .ensures .is a b ha hb) }
+returns c =
+    let first = c .before .before .mark .ensures in
+    let second = c .mark2 .ensures in
+    let a₀ = c .before .before .before .before .args in
+    record {
+      long = second .long ∙ first .long;
+      is = λ a b ha hb. second .is a b ha hb ∙ ap (λ (x : Bool). x || (eqb a (a₀ .j) && eqb b (a₀ .i))) (first .is a b ha hb);
+    }
 
 pub link-spec : {M : Type 1} → statement M
 link-spec = tie.close (tie.spec mark-requires mark-requires-2 returns)

@@ -27,7 +27,9 @@ element-write-legs : tie.Need-element-write-legs
 element-write-legs c = search needs
 
 returns : tie.Need-returns
-returns c = record { long = simp length-set; is = λ a b ha hb. mark-is (c .before .args .legs .now) (c .before .args .i) (c .before .args .j) (c .before .pre .2) (c .before .pre .0) (c .before .pre .1) a b ha hb }
+returns c =
+    let s = c .before in
+    record { long = simp length-set; is = mark-is (s .args .legs .now) (s .args .i) (s .args .j) (s .pre .2) (s .pre .0) (s .pre .1) }
 
 pub mark-spec : {M : Type 1} → statement M
 mark-spec =

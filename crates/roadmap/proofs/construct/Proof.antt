@@ -21,7 +21,8 @@ use Rattle.roadmap.proofs.construct.Statement.{statement}
 use Rattle.roadmap.proofs.construct.Tie as tie
 
 abbrev Inv-samples : tie.InvT-samples
-Inv-samples radius samples held limits segment columns rows az₀ el₀ feed₀ legs₀ count₀ at₀ taken₀ az el feed legs count at taken = Building limits segment (columnsOf (columns .kinds) (columns .numbers) rows) radius samples az el feed legs count at taken
+Inv-samples radius samples held limits segment columns rows az₀ el₀ feed₀ legs₀ count₀ at₀ taken₀ az el feed legs count at taken =
+    Building limits segment (columnsOf (columns .kinds) (columns .numbers) rows) radius samples az el feed legs count at taken
 
 abbrev μ-samples : tie.MeasureT-samples
 μ-samples radius samples held limits segment columns rows az₀ el₀ feed₀ legs₀ count₀ at₀ taken₀ az el feed legs count at taken = length samples - at
@@ -36,7 +37,8 @@ module _ (c : tie.After-of Inv-samples μ-samples) where
 
   answered :
       (e : Constructed) → run (columnsOf (c .of .result .kinds) (c .of .result .numbers) (c .of .result .count)) ≡ e →
-      e ≡ constructOf (start .args .mount .limits) (start .args .mount .segment .value) (keepOutsOf (start .args .mount .table)) (start .args .radius) (milestonesOf (start .args .map)) (samplesOf (now (start .args .samples)))
+      (let a = start .args in
+      e ≡ constructOf (a .mount .limits) (a .mount .segment .value) (keepOutsOf (a .mount .table)) (a .radius) (milestonesOf (a .map)) (samplesOf (now (a .samples))))
   unfolding milestonesOf
   answered e is =
       let none : min (start .args .map .count) 256 ≡ 0 = omega (arith, c .before .before .if1 .left) in

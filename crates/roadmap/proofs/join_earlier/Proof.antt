@@ -13,7 +13,8 @@ use Rattle.roadmap.proofs.join_earlier.Statement.{statement}
 use Rattle.roadmap.proofs.join_earlier.Tie as tie
 
 abbrev Inv-earlier : tie.InvT-earlier
-Inv-earlier limits segment kinds numbers keep-outs radius new az el feed n legs₀ j₀ legs j = (j ≤ n) × Joins legs₀ n j (λ (i : ℕ). joinedOf limits segment (columnsOf kinds numbers keep-outs) radius new (stateIn az el feed i)) legs
+Inv-earlier limits segment kinds numbers keep-outs radius new az el feed n legs₀ j₀ legs j =
+    (j ≤ n) × Joins legs₀ n j (λ (i : ℕ). joinedOf limits segment (columnsOf kinds numbers keep-outs) radius new (stateIn az el feed i)) legs
 
 abbrev μ-earlier : tie.MeasureT-earlier
 μ-earlier limits segment kinds numbers keep-outs radius new az el feed n legs₀ j₀ legs j = n - j

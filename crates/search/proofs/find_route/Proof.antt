@@ -1,5 +1,6 @@
 -- `search::find_route` meets its contract.
 use Prim.Native.Nat.{ℕ, _+_, _-_, _≤_, _<_, min}
+use mathlib.Core.Bool.{Bool}
 use mathlib.Core.List.{List}
 use mathlib.Core.Logic.{⊎-elim}
 use mathlib.Core.Path.{_≡_, refl, sym, _∙_, ap}
@@ -28,7 +29,9 @@ use Rattle.search.proofs.find_route.Statement.{statement}
 use Rattle.search.proofs.find_route.Tie as tie
 
 abbrev Inv-queue : tie.InvT-queue
-Inv-queue radius start goal route₀ map rows held count marks₀ order₀ from₀ n₀ p₀ route marks order from n p = (route ≡ route₀) × (count ≡ min (map .count) 256) × Seeking goal (map .az) (map .el) (map .feed) (map .legs) count (queueOf order₀ from₀ n₀) marks order from n p
+Inv-queue radius start goal route₀ map rows held count marks₀ order₀ from₀ n₀ p₀ route marks order from n p =
+    (route ≡ route₀) × (count ≡ min (map .count) 256)
+    × Seeking goal (map .az) (map .el) (map .feed) (map .legs) count (queueOf order₀ from₀ n₀) marks order from n p
 
 abbrev μ-queue : tie.MeasureT-queue
 μ-queue radius start goal route₀ map rows held count marks₀ order₀ from₀ n₀ p₀ route marks order from n p = 256 - p
@@ -62,14 +65,20 @@ module _ (h : tie.At-queue Inv-queue μ-queue) where
   unfolding milestonesOf
   same-view = ap (viewOf (map .az) (map .el) (map .feed) (map .legs)) (sym (h .queue .inv .1))
 
+  -- whether the start reaches the milestone j
+  abbrev reached : ℕ → Bool
+  reached j =
+      joinedOf (args .args .mount .limits) (args .args .mount .segment .value) columns (args .args .radius) (args .args .start)
+      (stateIn (map .az) (map .el) (map .feed) j)
+
   answered :
       (order from : List ℕ) (q₀ : List Place) (found : Found) →
-      q₀ ≡ pushOf 0 (queueOf order from 0) (numbersOf 0 (spanOf 0 count (λ (j : ℕ). joinedOf (args .args .mount .limits) (args .args .mount .segment .value) columns (args .args .radius) (args .args .start) (stateIn (map .az) (map .el) (map .feed) j)))) →
+      q₀ ≡ pushOf 0 (queueOf order from 0) (numbersOf 0 (spanOf 0 count reached)) →
       seeks (args .args .goal) (map .az) (map .el) (map .feed) (map .legs) count 256 q₀ 0 ≡ found →
       query (keepOutsOf (args .args .mount .table)) (milestonesOf map) ≡ routeOf (args .args .start) view found
   answered order from q₀ found first e =
       ap (λ (ks : List KeepOut). query ks (milestonesOf map)) (sym (joined .before .of .ensures .is)) ∙ ap (query columns) same-view
-      ∙ query-is (args .args .mount .limits) (args .args .mount .segment .value) columns (args .args .radius) (args .args .start) (args .args .goal) (map .az) (map .el) (map .feed) (map .legs) count order from q₀ first
+      ∙ query-is _ _ columns _ (args .args .start) (args .args .goal) (map .az) (map .el) (map .feed) (map .legs) count order from q₀ first
       ∙ ap (routeOf (args .args .start) view) e
 
 -- a turn: the milestone that is taken from the queue is one of the table
@@ -140,7 +149,8 @@ returns c =
     let turn = tested .before .before .before .before in
     let h = turn .before .queue in
     let s = args (turn .before) in
-    let found = answered (turn .before) _ _ _ _ (turn .before .before .connect .ensures .places) (seeking-goal (h .inv .2) (turn .queue-test .taken) (tested .is-satisfied .ensures) (met .if2 .taken)) in
+    let goal = seeking-goal (h .inv .2) (turn .queue-test .taken) (tested .is-satisfied .ensures) (met .if2 .taken) in
+    let found = answered (turn .before) _ _ _ _ (turn .before .before .connect .ensures .places) goal in
     let path = found ∙ ap (λ (x : Nodes). pathOf x (h .p + 1)) (tree-is (h .inv .2) (s .args .start)) in
     record {
       count = w .write .ensures .count ∙ sym (ap length path);
@@ -174,7 +184,8 @@ queue-again c =
     let tested = c .before .before .before .before .before .before .before in
     let turn = tested .before .before .before .before in
     let h = turn .before .queue in
-    (h .inv .0, h .inv .1, seeking-next (h .inv .2) (turn .queue-test .taken) (tested .is-satisfied .ensures) (c .before .before .before .before .before .before .if2 .left) (c .spread .ensures))
+    let missed = c .before .before .before .before .before .before .if2 .left in
+    (h .inv .0, h .inv .1, seeking-next (h .inv .2) (turn .queue-test .taken) (tested .is-satisfied .ensures) missed (c .spread .ensures))
 
 same-length-2 : tie.Need-same-length-2 Inv-queue μ-queue
 same-length-2 c = ap length (c .before .queue .inv .0)

@@ -10,7 +10,8 @@ use Rattle.search.proofs.spread.Statement.{statement}
 use Rattle.search.proofs.spread.Tie as tie
 
 abbrev Inv-neighbours : tie.InvT-neighbours
-Inv-neighbours legs u count marks₀ order₀ from₀ held f n₀ v₀ marks order from n v = Pushing (legAt legs u) count f order₀ from₀ held v marks order from n × (v ≤ 256) × (v < 256 → legAt legs u v ≡ true)
+Inv-neighbours legs u count marks₀ order₀ from₀ held f n₀ v₀ marks order from n v =
+    Pushing (legAt legs u) count f order₀ from₀ held v marks order from n × (v ≤ 256) × (v < 256 → legAt legs u v ≡ true)
 
 abbrev μ-neighbours : tie.MeasureT-neighbours
 μ-neighbours legs u count marks₀ order₀ from₀ held f n₀ v₀ marks order from n v = 256 - v
