@@ -46,10 +46,10 @@ use Rattle.rrt_connect.specs.Solve as connect
 use Rattle.rewire.specs.Neighbours.{neighboursFrom, neighboursOf}
 use Rattle.rewire.specs.Parent.{costVia, isBetter, chooseFrom, chooseOf}
 use Rattle.rewire.specs.Rewiring.{costUnder, moves, rewireOf}
-use Rattle.rrt_star.specs.Grow as grow
-use Rattle.rrt_star.specs.Grow.{Costed, addedOf, growOf}
-use Rattle.rrt_star.specs.Run as star-run
-use Rattle.rrt_star.specs.Run.{StarPlan}
+use Rattle.star.specs.Grow as grow
+use Rattle.star.specs.Grow.{Costed, addedOf, growOf}
+use Rattle.star.specs.Run as star-run
+use Rattle.star.specs.Run.{StarPlan}
 use Rattle.rrt_star.specs.Planner as star
 use Rattle.rrt_star.specs.Solve as star-solve
 use Rattle.examples.specs.Words.{ratio, whole, at, on, origin, limits, segment, box, unused, none, same, sameState, sameLists, sameStates, sameNumbers, sameIndices}

@@ -19,8 +19,8 @@ use Rattle.rrt.specs.Solve as rrt-solve
 use Rattle.rrt_connect.specs.Planner as connect
 use Rattle.connect.specs.Round.{Trees}
 use Rattle.rrt_connect.specs.Solve as connect-solve
-use Rattle.rrt_star.specs.Grow.{Costed}
-use Rattle.rrt_star.specs.Run.{StarPlan}
+use Rattle.star.specs.Grow.{Costed}
+use Rattle.star.specs.Run.{StarPlan}
 use Rattle.rrt_star.specs.Planner as star
 use Rattle.rrt_star.specs.Solve as star-solve
 use Rattle.host.specs.Setup.{number, limitsIn, startIn, goalIn}

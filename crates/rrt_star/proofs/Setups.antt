@@ -19,8 +19,8 @@ use Rattle.tree.proofs.Append.{rooted-is}
 use Rattle.plan.specs.Plan.{set}
 use Rattle.plan.specs.Setup.{goodSetup, usableOf}
 use Rattle.plan.proofs.Answers as answers
-use Rattle.rrt_star.specs.Grow.{Costed, treeIn}
-use Rattle.rrt_star.specs.Run.{starPlan, treeOf}
+use Rattle.star.specs.Grow.{Costed, treeIn}
+use Rattle.star.specs.Run.{starPlan, treeOf}
 use Rattle.rrt_star.specs.declared.RrtStar.{RrtStar}
 use Rattle.rrt_star.specs.Planner.{View, plannerOf, rootCosted, setupOf}
 use Rattle.rrt_star.proofs.Views.{view-set}

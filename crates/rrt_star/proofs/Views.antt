@@ -10,20 +10,15 @@ use lib.Seq.{getD-take}
 use lib.Ieee.{Float, nan}
 use Rattle.tree.specs.Table.{nodesIn, nodesOf, nodeAtOf}
 use Rattle.tree.specs.declared.NodeAt.the-variants as node
-use Rattle.tree.proofs.Append.{states-length}
+use Rattle.star.proofs.Length.{tree-length}
 use Rattle.plan.specs.Plan.{unset, set}
 use Rattle.plan.specs.Setup.{usableOf}
 use Rattle.plan.proofs.Usable.{usable-most}
-use Rattle.rrt_star.specs.Grow.{treeIn}
-use Rattle.rrt_star.specs.Run.{starPlan, treeOf}
+use Rattle.star.specs.Grow.{treeIn}
+use Rattle.star.specs.Run.{starPlan, treeOf}
 use Rattle.rrt_star.specs.declared.RrtStar.{RrtStar}
 use Rattle.rrt_star.specs.declared.CostAt.the-variants.{Cost, Nothing}
 use Rattle.rrt_star.specs.Planner.{plannerOf, sizeOf, nodeOf, costOf}
-
--- how many nodes columns hold
-pub tree-length : (n : ℕ) (az el feed : List Float) (parent : List ℕ) (cost : List Float) → n ≤ 512 → length (treeIn n az el feed parent cost .nodes .states) ≡ n
-unfolding treeIn nodesIn
-tree-length n az el feed parent cost h = states-length az el feed n h
 
 module _ (p : RrtStar) where
   pub view-set :

@@ -1,4 +1,2 @@
-pub mod Grow
-pub mod Run
 pub mod Planner
 pub mod Solve

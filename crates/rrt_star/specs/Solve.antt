@@ -4,8 +4,8 @@ use mathlib.Core.List.{List}
 use lib.Ieee.{Float}
 use Rattle.state.specs.declared.State.{State}
 use Rattle.plan.specs.Solve.{Ended, Outcome, solveWith}
-use Rattle.rrt_star.specs.Grow.{Costed}
-use Rattle.rrt_star.specs.Run.{StarPlan, runOf}
+use Rattle.star.specs.Grow.{Costed}
+use Rattle.star.specs.Run.{StarPlan, runOf}
 use Rattle.rrt_star.specs.Planner.{View, plannerOf}
 use Rattle.rrt_star.specs.declared.Solved.{Solved}
 

@@ -4,6 +4,7 @@ use answer::Answer;
 use keep_out::KeepOut;
 use keep_out::KeepOuts;
 use motion::Mount;
+use star::run;
 use state::Goal;
 use state::Length;
 use state::Limits;
@@ -13,9 +14,6 @@ use tree::Tree;
 ghost use mathlib.Core.Path.{_≡_};
 ghost use Rattle.rrt_star.specs.Planner.{plannerOf, newOf, setupOf, addOf, answeredOf, sizeOf, nodeOf, costOf};
 ghost use Rattle.rrt_star.specs.Solve.{solvedOf, solveOf};
-
-mod grow;
-mod run;
 
 // What an accepted setup gave, the tree that has grown since, and what each node costs.
 pub struct RrtStar {

@@ -1,4 +1,4 @@
--- `rrt_star::run::run` meets its contract.
+-- `star::run::run` meets its contract.
 use Prim.Native.Nat.{ℕ, _+_, _-_, _^_, _≤_, _<_}
 use mathlib.Core.Bool.{Bool, true, false}
 use mathlib.Core.List.{List, []}
@@ -19,11 +19,11 @@ use Rattle.extend.specs.declared.Verdict.the-variants as verdict
 use Rattle.route.specs.Written.{writtenOf}
 use Rattle.route.proofs.Stores.{nothing-written}
 use Rattle.plan.specs.Solve.{Ended, noRoute}
-use Rattle.rrt_star.specs.Grow.{Costed, planWith, treeIn, Sized}
-use Rattle.rrt_star.specs.Run.{StarPlan, starPlan, treeOf, runOf}
-use Rattle.rrt_star.proofs.Runs.{foundAt, turn-refused, turn-full, turn-goal, turn-added}
-use Rattle.rrt_star.proofs.run.run.Statement.{statement}
-use Rattle.rrt_star.proofs.run.run.Tie as tie
+use Rattle.star.specs.Grow.{Costed, planWith, treeIn, Sized}
+use Rattle.star.specs.Run.{StarPlan, starPlan, treeOf, runOf}
+use Rattle.star.proofs.Runs.{foundAt, turn-refused, turn-full, turn-goal, turn-added}
+use Rattle.star.proofs.run.run.Statement.{statement}
+use Rattle.star.proofs.run.run.Tie as tie
 
 abbrev Inv-samples : tie.InvT-samples
 Inv-samples max radius goal samples route₀ limits segment columns rows az₀ el₀ feed₀ parent₀ cost₀ n₀ found₀ at₀ taken₀ route az el feed parent cost n found at taken =

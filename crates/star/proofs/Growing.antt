@@ -23,8 +23,8 @@ use Rattle.rewire.specs.Neighbours.{neighboursOf, Found}
 use Rattle.rewire.specs.Parent.{chooseOf}
 use Rattle.rewire.specs.Rewiring.{Links, rewireOf, linksIn, Rewires}
 use Rattle.rewire.specs.declared.Choice.{Choice}
-use Rattle.rrt_star.specs.Grow.{Reach, Costed, treeIn, addedOf, Step, afterStep, growOf, Sized, Grows}
-use Rattle.rrt_star.proofs.Views.{tree-length}
+use Rattle.star.specs.Grow.{Reach, Costed, treeIn, addedOf, Step, afterStep, growOf, Sized, Grows}
+use Rattle.star.proofs.Length.{tree-length}
 
 -- the nearest node is one of the tree
 pub nearest-is-one :

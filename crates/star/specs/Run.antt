@@ -21,8 +21,8 @@ use Rattle.extend.specs.declared.Verdict.the-variants as verdict
 use Rattle.route.specs.Path.{pathOf}
 use Rattle.route.specs.Written.{writtenOf}
 use Rattle.plan.specs.Solve.{Ended, noRoute}
-use Rattle.rrt_star.specs.Grow.{Reach, Costed, treeIn, Step, growOf}
-use Rattle.rrt_star.specs.declared.run.Ran.{Ran}
+use Rattle.star.specs.Grow.{Reach, Costed, treeIn, Step, growOf}
+use Rattle.star.specs.declared.run.Ran.{Ran}
 
 -- what a setup gave, without the start
 pub record StarPlan : Type 0 where

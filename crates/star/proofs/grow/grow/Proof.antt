@@ -1,13 +1,13 @@
--- `rrt_star::grow::grow` meets its contract.
+-- `star::grow::grow` meets its contract.
 use mathlib.Core.Path.{_≡_, refl, sym, _∙_}
 use native.Mathlib.Omega.{arith}
 use denote.Ref.{now}
 use borrow.Author.Needs.{needs}
 use Rattle.columns.specs.Columns.{columnsOf}
-use Rattle.rrt_star.specs.Grow.{Reach, planWith}
-use Rattle.rrt_star.proofs.Growing.{nearest-is-one, refused, full, added}
-use Rattle.rrt_star.proofs.grow.grow.Statement.{statement}
-use Rattle.rrt_star.proofs.grow.grow.Tie as tie
+use Rattle.star.specs.Grow.{Reach, planWith}
+use Rattle.star.proofs.Growing.{nearest-is-one, refused, full, added}
+use Rattle.star.proofs.grow.grow.Statement.{statement}
+use Rattle.star.proofs.grow.grow.Tie as tie
 
 -- what the sample needs of the setup
 abbrev reach : tie.Start → Reach

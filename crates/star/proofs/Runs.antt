@@ -13,10 +13,10 @@ use Rattle.samples.proofs.Threes.{three}
 use Rattle.extend.specs.declared.Verdict.the-variants as verdict
 use Rattle.route.specs.Path.{pathOf}
 use Rattle.plan.specs.Solve.{Ended, noRoute}
-use Rattle.rrt_star.specs.declared.grow.Grown.{Grown}
-use Rattle.rrt_star.specs.Grow.{Costed, treeIn, Step, growOf, Grows}
-use Rattle.rrt_star.specs.Run.{StarPlan, newest, afterOf, runOf}
-use Rattle.rrt_star.proofs.Views.{tree-length}
+use Rattle.star.specs.declared.grow.Grown.{Grown}
+use Rattle.star.specs.Grow.{Costed, treeIn, Step, growOf, Grows}
+use Rattle.star.specs.Run.{StarPlan, newest, afterOf, runOf}
+use Rattle.star.proofs.Length.{tree-length}
 
 -- the run that found its goal at the newest node
 abbrev pub foundAt : Costed → ℕ → ℕ → Ended Costed

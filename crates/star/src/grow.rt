@@ -6,7 +6,7 @@ use tree::Tree;
 ghost use Prim.Native.Nat.{_≤_, _<_};
 ghost use lib.ListN.{length, take};
 ghost use Rattle.columns.specs.Columns.{columnsOf};
-ghost use Rattle.rrt_star.specs.Grow.{Sized, planWith, treeIn, Grows};
+ghost use Rattle.star.specs.Grow.{Sized, planWith, treeIn, Grows};
 
 pub struct Grown {
     pub verdict: Verdict,

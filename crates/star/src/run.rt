@@ -10,7 +10,7 @@ use state::State;
 use tree::Tree;
 ghost use Prim.Native.Nat.{_≤_, _<_};
 ghost use lib.ListN.{length};
-ghost use Rattle.rrt_star.specs.Run.{Runs};
+ghost use Rattle.star.specs.Run.{Runs};
 
 // How a run over the samples ended.
 pub struct Ran {

@@ -18,7 +18,7 @@ use Rattle.extend.specs.declared.Verdict.the-variants.{Refused, Full, Added}
 use Rattle.rewire.specs.Neighbours.{neighboursOf}
 use Rattle.rewire.specs.Parent.{chooseOf}
 use Rattle.rewire.specs.Rewiring.{Links, rewireOf}
-use Rattle.rrt_star.specs.declared.grow.Grown.{Grown}
+use Rattle.star.specs.declared.grow.Grown.{Grown}
 
 -- what a sample needs of the setup
 pub record Reach : Type 0 where

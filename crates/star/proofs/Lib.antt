@@ -1,0 +1,4 @@
+-- The crate's laws that belong to no one function.
+pub mod Length
+pub mod Growing
+pub mod Runs
