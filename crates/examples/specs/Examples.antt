@@ -34,7 +34,7 @@ use Rattle.plan.specs.Plan.{Plan, unset, set}
 use Rattle.plan.specs.Setup.{goodSetup, setupWith}
 use Rattle.plan.specs.Solve.{Outcome, endedOf, solveWith}
 use Rattle.rrt.specs.Planner.{newOf, setupOf}
-use Rattle.rrt.specs.Run.{afterOf, runOf}
+use Rattle.rrt_run.specs.Run.{afterOf, runOf}
 use Rattle.rrt.specs.Solve.{solveOf}
 use Rattle.extend.specs.Extend.{afterStep, extendOf}
 use Rattle.connect.specs.Turn.{connectEnds, byVerdict, turnOf}

@@ -15,9 +15,9 @@ use Rattle.plan.specs.Solve.{Ended, Outcome, refusedOf, endedOf}
 use Rattle.plan.proofs.Usable.{usable-ready, usable-count}
 use Rattle.plan.proofs.Answers as answers
 use Rattle.rrt.specs.declared.Rrt.{Rrt}
-use Rattle.rrt.specs.declared.Ran.{Ran}
+use Rattle.rrt_run.specs.declared.Ran.{Ran}
 use Rattle.rrt.specs.Planner.{plannerOf}
-use Rattle.rrt.specs.Run.{Runs}
+use Rattle.rrt_run.specs.Run.{Runs}
 use Rattle.rrt.specs.Solve.{needed, runFrom, solveOf}
 use Rattle.rrt.proofs.Views.{view-set, view-unset}
 

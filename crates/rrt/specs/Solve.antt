@@ -7,7 +7,7 @@ use Rattle.tree.specs.Table.{Nodes}
 use Rattle.plan.specs.Plan.{Plan}
 use Rattle.plan.specs.Solve.{Ended, Outcome, solveWith}
 use Rattle.rrt.specs.Planner.{View, plannerOf}
-use Rattle.rrt.specs.Run.{runOf}
+use Rattle.rrt_run.specs.Run.{runOf}
 use Rattle.rrt.specs.declared.Solved.{Solved}
 
 abbrev pub solvedOf : Solved → List Float → Outcome Plan Nodes

@@ -1,6 +1,5 @@
 // RRT (document 01, "RRT" and "Sizes and answers"): one tree from the start, a sample at a time, until a new node satisfies the goal.
 use answer::Answer;
-use columns::Columns;
 use keep_out::KeepOut;
 use keep_out::KeepOuts;
 use motion::Mount;
@@ -11,10 +10,7 @@ use state::State;
 use tree::NodeAt;
 use tree::Tree;
 ghost use mathlib.Core.Path.{_≡_};
-ghost use Prim.Native.Nat.{_≤_, _<_};
-ghost use lib.ListN.{length};
 ghost use Rattle.rrt.specs.Planner.{plannerOf, newOf, setupOf, addOf, answeredOf, sizeOf, nodeOf};
-ghost use Rattle.rrt.specs.Run.{Runs};
 ghost use Rattle.rrt.specs.Solve.{solvedOf, solveOf};
 
 // What an accepted setup gave, and the tree that has grown since.
@@ -38,98 +34,6 @@ pub struct Solved {
     pub count: usize,
     // The samples taken.
     pub taken: usize,
-}
-
-// How a run over the samples ended.
-struct Ran {
-    tree: Tree,
-    answer: Answer,
-    count: usize,
-    taken: usize,
-}
-
-// Each sample in turn makes one tree step; an accepted state is appended under the nearest node, and then tested against the goal.
-fn run(
-    mount: Mount,
-    max: Length,
-    goal: Goal,
-    rooted: Tree,
-    samples: &[f64],
-    route: &mut [f64],
-) -> Ran
-    requires { ⌜ (0 < rooted .count) × (rooted .count ≤ 512) × (1536 ≤ length (now route)) ⌝ }
-    ensures { λ r. ⌜ Runs mount max goal rooted (now (samples .entry)) (now (route .entry)) r (now (route .exit)) ⌝ }
-{
-    let limits = mount.limits;
-    let segment = mount.segment.value;
-    let columns = Columns::of(mount.table);
-    let rows = columns.count;
-    let mut tree = rooted;
-    let mut at: usize = 0;
-    let mut taken: usize = 0;
-    'samples: while samples.len() - at >= 3 {
-        let sample = State {
-            az: samples[at],
-            el: samples[at + 1],
-            feed: samples[at + 2],
-        };
-        let n = tree.count;
-        let e = tree::step(
-            &tree.az,
-            &tree.el,
-            &tree.feed,
-            n,
-            limits,
-            segment,
-            &columns.kinds,
-            &columns.numbers,
-            rows,
-            max.value,
-            sample,
-        );
-        taken += 1;
-        if e.accepted {
-            if n < Tree::MOST {
-                let s = e.at;
-                tree.az[n] = s.az;
-                tree.el[n] = s.el;
-                tree.feed[n] = s.feed;
-                tree.parent[n] = e.parent;
-                tree.count = n + 1;
-                if goal.is_satisfied(s) {
-                    let count = route::reconstruct_path(
-                        &tree.az,
-                        &tree.el,
-                        &tree.feed,
-                        &tree.parent,
-                        n + 1,
-                        n,
-                        route,
-                    );
-                    return Ran {
-                        tree,
-                        answer: Answer::Done,
-                        count,
-                        taken,
-                    };
-                }
-            } else {
-                return Ran {
-                    tree,
-                    answer: Answer::Full,
-                    count: 0,
-                    taken,
-                };
-            }
-        }
-        at += 3;
-    }
-    Ran {
-        tree,
-        answer: Answer::SamplesEnded,
-        count: 0,
-        taken,
-    }
 }
 
 impl Rrt {
@@ -217,7 +121,7 @@ impl Rrt {
                 };
             }
             if good {
-                let ran = run(
+                let ran = rrt_run::run(
                     self.mount,
                     self.max_distance,
                     self.goal,

@@ -1,4 +1,4 @@
--- `rrt::run` meets its contract.
+-- `rrt_run::run` meets its contract.
 use Prim.Native.Nat.{ℕ, _+_, _-_, _*_, _^_, _≤_, _<_}
 use mathlib.Core.Bool.{Bool, true, false}
 use mathlib.Core.List.{List, []}
@@ -24,10 +24,10 @@ use Rattle.route.specs.Written.{writtenOf}
 use Rattle.route.proofs.Stores.{nothing-written}
 use Rattle.plan.specs.Plan.{Plan, planFrom}
 use Rattle.plan.specs.Solve.{Ended, noRoute}
-use Rattle.rrt.specs.Run.{runOf}
-use Rattle.rrt.proofs.Runs.{turn-refused, turn-full, turn-goal, turn-added}
-use Rattle.rrt.proofs.run.Statement.{statement}
-use Rattle.rrt.proofs.run.Tie as tie
+use Rattle.rrt_run.specs.Run.{runOf}
+use Rattle.rrt_run.proofs.Runs.{turn-refused, turn-full, turn-goal, turn-added}
+use Rattle.rrt_run.proofs.run.Statement.{statement}
+use Rattle.rrt_run.proofs.run.Tie as tie
 
 abbrev Inv-samples : tie.InvT-samples
 Inv-samples max goal samples route₀ limits segment columns rows tree₀ at₀ taken₀ route tree at taken =

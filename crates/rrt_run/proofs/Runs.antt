@@ -20,7 +20,7 @@ use Rattle.tree.proofs.Append.{Sized, putOf, put-grows, nodes-length}
 use Rattle.route.specs.Path.{pathOf}
 use Rattle.plan.specs.Plan.{Plan}
 use Rattle.plan.specs.Solve.{Ended, noRoute}
-use Rattle.rrt.specs.Run.{afterOf, runOf}
+use Rattle.rrt_run.specs.Run.{afterOf, runOf}
 
 -- the step toward a sample
 abbrev pub stepAt : Plan → List State → State → Stepped

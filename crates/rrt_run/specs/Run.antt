@@ -23,7 +23,7 @@ use Rattle.route.specs.Path.{pathOf}
 use Rattle.route.specs.Written.{writtenOf}
 use Rattle.plan.specs.Plan.{Plan, planFrom}
 use Rattle.plan.specs.Solve.{Ended, noRoute}
-use Rattle.rrt.specs.declared.Ran.{Ran}
+use Rattle.rrt_run.specs.declared.Ran.{Ran}
 
 -- what follows a step: `refused` and `added` are the runs over the samples that are left
 unfoldable pub afterOf : Goal → Nodes → Nodes → Stepped → ℕ → Ended Nodes → Ended Nodes → Ended Nodes
