@@ -15,7 +15,7 @@ mod thread_time;
 mod workloads;
 
 use thread_time::timed;
-use workloads::Workload;
+use workloads::{Planner, Workload};
 
 const ROUNDS: usize = 300;
 
@@ -40,8 +40,12 @@ fn describe(workload: &Workload) {
     let keep_outs = workload.mount.keep_outs.len();
     println!("{}", workload.name);
     println!(
-        "   {samples} samples, {nodes} nodes, {refused:.0}% refused, {points:.1} points a motion, {keep_outs} keep-outs"
+        "   {samples} samples, {nodes} nodes, {refused:.0}% refused, {points:.1} points a sample, {keep_outs} keep-outs"
     );
+    if let Planner::Star { search_radius } = workload.planner {
+        let neighbours = original::neighbours(workload, search_radius) as f64 / (nodes - 1) as f64;
+        println!("   {neighbours:.1} neighbours a node");
+    }
 }
 
 /// The least time of the Rust and of the proved code, in turn, and that their answers agree.

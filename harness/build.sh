@@ -15,12 +15,13 @@ need_rust() {
     done
 }
 
-# compile NAME SOURCE WORDS..: one crate at the optimisation of a release.
+# compile NAME SOURCE WORDS..: one crate at the optimisation of a release. Functions begin at multiples of 64 bytes, so that a time does not
+# hang on where the linker happens to put them.
 compile() {
     local name=$1 source=$2
     shift 2
     PLANNERS=$(cd "$oxmpl" && pwd) rustc --edition 2024 -C opt-level=3 -C codegen-units=1 -D warnings \
-        --out-dir "$out" -L "$out" --crate-name "$name" "$source" "$@"
+        -C llvm-args=-align-all-functions=6 --out-dir "$out" -L "$out" --crate-name "$name" "$source" "$@"
 }
 
 inputs_now() {

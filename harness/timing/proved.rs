@@ -1,11 +1,11 @@
-//! The proved code's side of a workload: its exported function, and the numbers that it takes. All that depends on that
-//! function's form stands here.
+//! The proved code's side of a workload: its exported functions, and the numbers that they take. All that depends on those
+//! functions' form stands here.
 
 use crate::original::Outcome;
 use crate::workloads::{Planner, Workload};
 use oxmpl::mount::KeepOut;
 
-/// What the exported function gives.
+/// What an exported function gives.
 #[repr(C)]
 struct Report {
     answer: usize,
@@ -13,40 +13,16 @@ struct Report {
     taken: usize,
 }
 
-/// Setup and one solve. A slice is handed over as its address and its length, an array as its address.
-type Call = unsafe extern "C" fn(
-    setup: *const [f64; 15],
-    kinds: *const [u8; 32],
-    numbers: *const [f64; 192],
-    keep_outs: usize,
-    samples: *const f64,
-    samples_length: usize,
-    route: *mut f64,
-    route_length: usize,
-) -> Report;
+type Setup = *const [f64; 15];
+type Kinds = *const [u8; 32];
+type Numbers = *const [f64; 192];
 
+// Setup and one solve. An array is handed over as its address, a slice as its address and its length: the setup; the keep-outs' kinds,
+// numbers and count; the samples; the route buffer. RRT* has its search radius after the setup.
 unsafe extern "C" {
-    fn rindmosaic_rrt(
-        setup: *const [f64; 15],
-        kinds: *const [u8; 32],
-        numbers: *const [f64; 192],
-        keep_outs: usize,
-        samples: *const f64,
-        samples_length: usize,
-        route: *mut f64,
-        route_length: usize,
-    ) -> Report;
-
-    fn rindmosaic_connect(
-        setup: *const [f64; 15],
-        kinds: *const [u8; 32],
-        numbers: *const [f64; 192],
-        keep_outs: usize,
-        samples: *const f64,
-        samples_length: usize,
-        route: *mut f64,
-        route_length: usize,
-    ) -> Report;
+    fn rindmosaic_rrt(_: Setup, _: Kinds, _: Numbers, _: usize, _: *const f64, _: usize, _: *mut f64, _: usize) -> Report;
+    fn rindmosaic_connect(_: Setup, _: Kinds, _: Numbers, _: usize, _: *const f64, _: usize, _: *mut f64, _: usize) -> Report;
+    fn rindmosaic_star(_: Setup, _: f64, _: Kinds, _: Numbers, _: usize, _: *const f64, _: usize, _: *mut f64, _: usize) -> Report;
 }
 
 /// The longest route buffer that a solve needs.
@@ -54,7 +30,7 @@ const ROUTE: usize = 3069;
 
 /// What the calls take and write, made before the time is taken.
 pub struct Prepared {
-    call: Call,
+    planner: Planner,
     setup: [f64; 15],
     kinds: [u8; 32],
     numbers: [f64; 192],
@@ -79,10 +55,7 @@ pub fn prepare(workload: &Workload) -> Prepared {
         }
     }
     Prepared {
-        call: match workload.planner {
-            Planner::Rrt => rindmosaic_rrt,
-            Planner::Connect => rindmosaic_connect,
-        },
+        planner: workload.planner,
         setup: setup.try_into().expect("fifteen numbers of a setup"),
         kinds,
         numbers,
@@ -109,17 +82,17 @@ fn keep_out_numbers(keep_out: &KeepOut) -> Vec<f64> {
 }
 
 pub fn run(prepared: &mut Prepared) -> Outcome {
+    let Prepared { planner, setup, kinds, numbers, keep_outs, samples, route } = prepared;
+    let (list, length) = (samples.as_ptr(), samples.len());
+    let (memory, room) = (route.as_mut_ptr(), route.len());
     let report = unsafe {
-        (prepared.call)(
-            &prepared.setup,
-            &prepared.kinds,
-            &prepared.numbers,
-            prepared.keep_outs,
-            prepared.samples.as_ptr(),
-            prepared.samples.len(),
-            prepared.route.as_mut_ptr(),
-            prepared.route.len(),
-        )
+        match *planner {
+            Planner::Rrt => rindmosaic_rrt(setup, kinds, numbers, *keep_outs, list, length, memory, room),
+            Planner::Connect => rindmosaic_connect(setup, kinds, numbers, *keep_outs, list, length, memory, room),
+            Planner::Star { search_radius } => {
+                rindmosaic_star(setup, search_radius, kinds, numbers, *keep_outs, list, length, memory, room)
+            }
+        }
     };
     Outcome { answer: report.answer as u64, count: report.count as u64, taken: report.taken as u64 }
 }

@@ -8,6 +8,7 @@ use oxmpl::mount::{GoalRegion, KeepOut, Mount, State};
 pub enum Planner {
     Rrt,
     Connect,
+    Star { search_radius: f64 },
 }
 
 pub struct Workload {
@@ -31,6 +32,8 @@ pub fn all() -> Vec<Workload> {
         filled(wide("d: 40 points, 32 keep-outs", 39.5, thirty_two())),
         filled(apart("e: RRT-Connect, both trees to 512, no keep-outs", Vec::new())),
         filled(apart("f: RRT-Connect, both trees to 512, 8 keep-outs", at_both_ends())),
+        filled(crowded("g: RRT*, 511 nodes, no keep-outs", Vec::new())),
+        filled(crowded("h: RRT*, 511 nodes, 8 keep-outs", eight())),
     ]
 }
 
@@ -53,6 +56,13 @@ fn apart(name: &'static str, keep_outs: Vec<KeepOut>) -> Workload {
     workload.planner = Planner::Connect;
     workload.segment = 4.0;
     workload.samples.insert(0, State::new(&[1000.0; 3]));
+    workload
+}
+
+/// A tree for RRT* in which a new node has about twenty neighbours.
+fn crowded(name: &'static str, keep_outs: Vec<KeepOut>) -> Workload {
+    let mut workload = dish(name, 3.75, keep_outs);
+    workload.planner = Planner::Star { search_radius: 29.0 };
     workload
 }
 

@@ -2,3 +2,4 @@
 pub mod Usable
 pub mod Good
 pub mod Answers
+pub mod Adding

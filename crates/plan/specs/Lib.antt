@@ -1,3 +1,4 @@
 pub mod Plan
 pub mod Setup
 pub mod Solve
+pub mod KeepOut

@@ -21,6 +21,10 @@ abbrev pub planFrom : Mount → Length → Goal → Plan
 planFrom mount max goal =
     record { limits = mount .limits; segment = mount .segment .value; keepOuts = keepOutsOf (mount .table); max = max .value; goal = goal }
 
+-- the same under another list of keep-outs
+abbrev pub planUnder : Plan → List KeepOut → Plan
+planUnder p ks = record { limits = p .limits; segment = p .segment; keepOuts = ks; max = p .max; goal = p .goal }
+
 -- uninitialised, or set up: what the setup gave (P), and the tables (A)
 pub data Planner (P A : Type 0) : Type 0 where
   unset : Planner P A

@@ -185,11 +185,11 @@ impl Prm {
     {
         let map = self.map;
         let start = self.start;
+        let size = map.size();
         if self.ready {
             if route.len() < Prm::ROUTE {
                 return refused(Answer::Room);
             }
-            let size = map.size();
             if size == 0 {
                 return refused(Answer::Unsampled);
             }

@@ -3,3 +3,4 @@ pub mod Views
 pub mod Setups
 pub mod Runs
 pub mod Solves
+pub mod Adds

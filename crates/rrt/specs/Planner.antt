@@ -6,13 +6,15 @@ use Rattle.state.specs.declared.State.{State}
 use Rattle.state.specs.declared.Limits.{Limits}
 use Rattle.state.specs.declared.Length.{Length}
 use Rattle.state.specs.declared.Goal.{Goal}
+use Rattle.keep_out.specs.declared.KeepOut.{KeepOut}
 use Rattle.keep_out.specs.declared.KeepOuts.{KeepOuts}
 use Rattle.motion.specs.declared.Mount.{Mount}
 use Rattle.tree.specs.Table.{Nodes, nodesOf, nodeAtOf, rootOf}
 use Rattle.tree.specs.declared.NodeAt.{NodeAt}
 use Rattle.tree.specs.declared.NodeAt.the-variants.{Nothing}
-use Rattle.plan.specs.Plan.{Plan, planFrom, Planner, unset, set}
+use Rattle.plan.specs.Plan.{Plan, planFrom, planUnder, Planner, unset, set}
 use Rattle.plan.specs.Setup.{Told, goodSetup, setupWith, usableOf}
+use Rattle.plan.specs.KeepOut.{addWith}
 use Rattle.rrt.specs.declared.Rrt.{Rrt}
 use Rattle.rrt.specs.declared.Answered.{Answered}
 
@@ -33,6 +35,10 @@ unfoldable pub setupOf : View → Limits → Length → Length → State → Goa
 setupOf planner limits segment max start goal table =
     let mount : Mount = record { limits = limits; segment = segment; table = table } in
     setupWith planner (goodSetup mount max start goal) (planFrom mount max goal) (rootOf start)
+
+-- a keep-out more for the motions to come; the tree stays
+unfoldable pub addOf : View → KeepOut → Told Plan Nodes
+addOf planner k = addWith (λ (p : Plan). p .keepOuts) planUnder planner k
 
 -- the tree by index
 unfoldable pub sizeOf : View → ℕ

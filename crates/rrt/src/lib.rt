@@ -1,6 +1,7 @@
 // RRT (document 01, "RRT" and "Sizes and answers"): one tree from the start, a sample at a time, until a new node satisfies the goal.
 use answer::Answer;
 use columns::Columns;
+use keep_out::KeepOut;
 use keep_out::KeepOuts;
 use motion::Mount;
 use state::Goal;
@@ -12,7 +13,7 @@ use tree::Tree;
 ghost use mathlib.Core.Path.{_≡_};
 ghost use Prim.Native.Nat.{_≤_, _<_};
 ghost use lib.ListN.{length};
-ghost use Rattle.rrt.specs.Planner.{plannerOf, newOf, setupOf, answeredOf, sizeOf, nodeOf};
+ghost use Rattle.rrt.specs.Planner.{plannerOf, newOf, setupOf, addOf, answeredOf, sizeOf, nodeOf};
 ghost use Rattle.rrt.specs.Run.{Runs};
 ghost use Rattle.rrt.specs.Solve.{solvedOf, solveOf};
 
@@ -248,6 +249,32 @@ impl Rrt {
             answer: Answer::Uninitialised,
             count: 0,
             taken: 0,
+        }
+    }
+
+    // Adds a keep-out for the motions to come; what has grown stays.
+    pub fn add_keep_out(self, k: KeepOut) -> Answered
+        ensures { λ r. ⌜ answeredOf r ≡ addOf (plannerOf self) k ⌝ }
+    {
+        let mount = self.mount;
+        if plan::is_usable(self.ready, self.tree.count) {
+            let more = plan::with_keep_out(mount.table, k);
+            let table = more.table;
+            let answer = more.answer;
+            let limits = mount.limits;
+            let segment = mount.segment;
+            let longer = Mount {
+                limits,
+                segment,
+                table,
+            };
+            let mut planner = self;
+            planner.mount = longer;
+            return Answered { planner, answer };
+        }
+        Answered {
+            planner: self,
+            answer: Answer::Uninitialised,
         }
     }
 

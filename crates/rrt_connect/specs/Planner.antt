@@ -7,14 +7,16 @@ use Rattle.state.specs.declared.State.{State}
 use Rattle.state.specs.declared.Limits.{Limits}
 use Rattle.state.specs.declared.Length.{Length}
 use Rattle.state.specs.declared.Goal.{Goal}
+use Rattle.keep_out.specs.declared.KeepOut.{KeepOut}
 use Rattle.keep_out.specs.declared.KeepOuts.{KeepOuts}
 use Rattle.motion.specs.declared.Mount.{Mount}
 use Rattle.tree.specs.Table.{nodesOf, nodeAtOf, rootOf, noNodes}
 use Rattle.tree.specs.declared.NodeAt.{NodeAt}
 use Rattle.tree.specs.declared.NodeAt.the-variants.{Nothing}
-use Rattle.plan.specs.Plan.{Plan, planFrom, Planner, unset, set}
+use Rattle.plan.specs.Plan.{Plan, planFrom, planUnder, Planner, unset, set}
 use Rattle.plan.specs.Setup as setup
 use Rattle.plan.specs.Setup.{Told, goodSetup, setupWith}
+use Rattle.plan.specs.KeepOut.{addWith}
 use Rattle.connect.specs.Round.{Trees, sizeOf}
 use Rattle.rrt_connect.specs.declared.RrtConnect.{RrtConnect}
 use Rattle.rrt_connect.specs.declared.Answered.{Answered}
@@ -43,6 +45,10 @@ unfoldable pub setupOf : View → Limits → Length → Length → State → Goa
 setupOf planner limits segment max start goal table =
     let mount : Mount = record { limits = limits; segment = segment; table = table } in
     setupWith planner (goodSetup mount max start goal) (planFrom mount max goal) (record { start = rootOf start; goal = noNodes })
+
+-- a keep-out more for the motions to come; the trees stay
+unfoldable pub addOf : View → KeepOut → Told Plan Trees
+addOf planner k = addWith (λ (p : Plan). p .keepOuts) planUnder planner k
 
 -- the trees by index
 unfoldable pub startSizeOf : View → ℕ

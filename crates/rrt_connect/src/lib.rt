@@ -1,6 +1,7 @@
 // RRT-Connect (document 01, "RRT-Connect" and "Sizes and answers"): two trees, from the start and from the first sample, that grow
 // toward each other.
 use answer::Answer;
+use keep_out::KeepOut;
 use keep_out::KeepOuts;
 use motion::Mount;
 use state::Goal;
@@ -10,7 +11,7 @@ use state::State;
 use tree::NodeAt;
 use tree::Tree;
 ghost use mathlib.Core.Path.{_≡_};
-ghost use Rattle.rrt_connect.specs.Planner.{usableOf, plannerOf, newOf, setupOf, answeredOf, startSizeOf, goalSizeOf, startNodeOf, goalNodeOf};
+ghost use Rattle.rrt_connect.specs.Planner.{usableOf, plannerOf, newOf, setupOf, addOf, answeredOf, startSizeOf, goalSizeOf, startNodeOf, goalNodeOf};
 ghost use Rattle.rrt_connect.specs.Solve.{solvedOf, solveOf};
 
 mod run;
@@ -172,6 +173,32 @@ impl RrtConnect {
             answer: Answer::Uninitialised,
             count: 0,
             taken: 0,
+        }
+    }
+
+    // Adds a keep-out for the motions to come; what has grown stays.
+    pub fn add_keep_out(self, k: KeepOut) -> Answered
+        ensures { λ r. ⌜ answeredOf r ≡ addOf (plannerOf self) k ⌝ }
+    {
+        let mount = self.mount;
+        if usable(self.ready, self.start_tree.count, self.goal_tree.count) {
+            let more = plan::with_keep_out(mount.table, k);
+            let table = more.table;
+            let answer = more.answer;
+            let limits = mount.limits;
+            let segment = mount.segment;
+            let longer = Mount {
+                limits,
+                segment,
+                table,
+            };
+            let mut planner = self;
+            planner.mount = longer;
+            return Answered { planner, answer };
+        }
+        Answered {
+            planner: self,
+            answer: Answer::Uninitialised,
         }
     }
 

@@ -4,3 +4,4 @@ pub mod Setups
 pub mod Growing
 pub mod Runs
 pub mod Solves
+pub mod Adds

@@ -10,6 +10,7 @@ use Rattle.state.specs.declared.State.{State}
 use Rattle.state.specs.declared.Limits.{Limits}
 use Rattle.state.specs.declared.Length.{Length}
 use Rattle.state.specs.declared.Goal.{Goal}
+use Rattle.keep_out.specs.declared.KeepOut.{KeepOut}
 use Rattle.keep_out.specs.declared.KeepOuts.{KeepOuts}
 use Rattle.motion.specs.declared.Mount.{Mount}
 use Rattle.tree.specs.Table.{nodeAtOf, rootOf}
@@ -17,8 +18,9 @@ use Rattle.tree.specs.declared.NodeAt.{NodeAt}
 use Rattle.tree.specs.declared.NodeAt.the-variants as node
 use Rattle.plan.specs.Plan.{Planner, unset, set}
 use Rattle.plan.specs.Setup.{Told, goodSetup, setupWith, usableOf}
+use Rattle.plan.specs.KeepOut.{addWith}
 use Rattle.rrt_star.specs.Grow.{Costed}
-use Rattle.rrt_star.specs.Run.{StarPlan, starPlan, treeOf}
+use Rattle.rrt_star.specs.Run.{StarPlan, starPlan, starUnder, treeOf}
 use Rattle.rrt_star.specs.declared.RrtStar.{RrtStar}
 use Rattle.rrt_star.specs.declared.Answered.{Answered}
 use Rattle.rrt_star.specs.declared.CostAt.{CostAt}
@@ -45,6 +47,10 @@ unfoldable pub setupOf : View → Limits → Length → Length → Length → St
 setupOf planner limits segment max radius start goal table =
     let mount : Mount = record { limits = limits; segment = segment; table = table } in
     setupWith planner (goodSetup mount max start goal && goodLength radius) (starPlan mount max radius goal) (rootCosted start)
+
+-- a keep-out more for the motions to come; the tree stays
+unfoldable pub addOf : View → KeepOut → Told StarPlan Costed
+addOf planner k = addWith (λ (p : StarPlan). p .reach .keepOuts) starUnder planner k
 
 -- the tree by index, and its costs
 unfoldable pub sizeOf : View → ℕ

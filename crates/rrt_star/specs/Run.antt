@@ -12,6 +12,7 @@ use Rattle.state.specs.declared.State.{State}
 use Rattle.state.specs.declared.Goal.{Goal}
 use Rattle.state.specs.declared.Length.{Length}
 use Rattle.keep_out.specs.Table.{keepOutsOf}
+use Rattle.keep_out.specs.declared.KeepOut.{KeepOut}
 use Rattle.motion.specs.declared.Mount.{Mount}
 use Rattle.samples.specs.Samples.{samplesOf}
 use Rattle.tree.specs.declared.Tree.{Tree}
@@ -42,6 +43,12 @@ starPlan mount max radius goal =
           };
       goal = goal;
     }
+
+-- the same under another list of keep-outs
+abbrev pub starUnder : StarPlan → List KeepOut → StarPlan
+starUnder p ks =
+    let r = p .reach in
+    record { reach = record { limits = r .limits; segment = r .segment; keepOuts = ks; max = r .max; radius = r .radius }; goal = p .goal }
 
 -- the tree of a table with its column of costs
 abbrev pub treeOf : Tree → List Float → Costed

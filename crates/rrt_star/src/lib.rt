@@ -1,6 +1,7 @@
 // RRT* (document 01, "RRT*" and "Sizes and answers"): RRT whose new node takes the parent that costs least, and then draws its neighbours
 // under itself where that costs less.
 use answer::Answer;
+use keep_out::KeepOut;
 use keep_out::KeepOuts;
 use motion::Mount;
 use state::Goal;
@@ -10,7 +11,7 @@ use state::State;
 use tree::NodeAt;
 use tree::Tree;
 ghost use mathlib.Core.Path.{_≡_};
-ghost use Rattle.rrt_star.specs.Planner.{plannerOf, newOf, setupOf, answeredOf, sizeOf, nodeOf, costOf};
+ghost use Rattle.rrt_star.specs.Planner.{plannerOf, newOf, setupOf, addOf, answeredOf, sizeOf, nodeOf, costOf};
 ghost use Rattle.rrt_star.specs.Solve.{solvedOf, solveOf};
 
 mod grow;
@@ -176,6 +177,32 @@ impl RrtStar {
             answer: Answer::Uninitialised,
             count: 0,
             taken: 0,
+        }
+    }
+
+    // Adds a keep-out for the motions to come; what has grown stays.
+    pub fn add_keep_out(self, k: KeepOut) -> Answered
+        ensures { λ r. ⌜ answeredOf r ≡ addOf (plannerOf self) k ⌝ }
+    {
+        let mount = self.mount;
+        if plan::is_usable(self.ready, self.tree.count) {
+            let more = plan::with_keep_out(mount.table, k);
+            let table = more.table;
+            let answer = more.answer;
+            let limits = mount.limits;
+            let segment = mount.segment;
+            let longer = Mount {
+                limits,
+                segment,
+                table,
+            };
+            let mut planner = self;
+            planner.mount = longer;
+            return Answered { planner, answer };
+        }
+        Answered {
+            planner: self,
+            answer: Answer::Uninitialised,
         }
     }
 

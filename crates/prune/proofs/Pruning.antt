@@ -1,0 +1,131 @@
+-- The walk of pruning over its tables: what holds when a milestone is reached, and what one turn makes of it.
+use Prim.Native.Nat.{ℕ, _+_, _-_, _<_, _≤_, min}
+use mathlib.Core.Bool.{Bool, true, false, not, _&&_}
+use mathlib.Core.List.{List, [], _∷_, _++_}
+use mathlib.Core.Path.{_≡_, refl, sym, _∙_, ap}
+use native.Mathlib.Omega.{arith}
+use lib.ListN.{length, getD, set, length-set, replicate}
+use lib.Ieee.{Float}
+use Rattle.state.specs.declared.State.{State}
+use Rattle.keep_out.specs.Covers.{coversOf}
+use Rattle.keep_out.specs.declared.KeepOut.{KeepOut}
+use Rattle.legs.specs.Bits.{legAt}
+use Rattle.roadmap.specs.declared.Roadmap.{Roadmap}
+use Rattle.roadmap.specs.Keep.{keepOf}
+use Rattle.roadmap.specs.Map.{Milestone, addOf}
+use Rattle.roadmap.specs.View.{spanOf, stateIn, viewOf, milestonesOf, Clean, Joins}
+use Rattle.roadmap.proofs.View.{clean}
+use Rattle.roadmap.proofs.Grows.{view-add, clean-add}
+use Rattle.prune.specs.Hit.{hitOf}
+use Rattle.prune.specs.Prune.{prunedOf}
+use Rattle.prune.proofs.Turns.{itself, stands, old-more, old-below, left-kept, kept-gone, kept-more, leavesAt, turn-gone, turn-kept, turn-end}
+
+module _ (map : Roadmap) where
+  -- the state of a former number
+  abbrev pub was : ℕ → State
+  was = stateIn (map .az) (map .el) (map .feed)
+
+  abbrev pub size : ℕ
+  size = min (map .count) 256
+
+module _ (map : Roadmap) (k : KeepOut) (segment : Float) where
+  -- the leg that the i-th of the former numbers keeps to the j-th that stays
+  abbrev pub keeps : List ℕ → ℕ → ℕ → Bool
+  keeps old i j = legAt (map .legs) i (getD old j 0) && not (hitOf segment k (was map i) (was map (getD old j 0)))
+
+  -- what the walk gives from the i-th milestone on
+  abbrev pub leaves : List Milestone → ℕ → List Milestone
+  leaves kept i = leavesAt (coversOf k) (hitOf segment k) (was map) (legAt (map .legs)) (size map) kept i
+
+  -- what holds when the milestone i is reached: n stay so far, and these tables have them
+  pub record Pruning (az el feed : List Float) (legs old : List ℕ) (n i : ℕ) : Type 0 where
+    pub within : i ≤ size map
+    pub few : n ≤ i
+    pub az-sized : length az ≡ 256
+    pub el-sized : length el ≡ 256
+    pub feed-sized : length feed ≡ 256
+    pub legs-sized : length legs ≡ 1024
+    pub old-sized : length old ≡ 256
+    -- no leg beyond those that stay
+    pub clean : Clean legs n
+    -- the former numbers of those that stay
+    pub below : (j : ℕ) → j < n → getD old j 0 < i
+    pub numbers : spanOf 0 n (λ (j : ℕ). getD old j 0) ≡ keepOf (stands (coversOf k) (hitOf segment k) (was map)) (spanOf 0 i itself)
+    pub is : prunedOf segment k (milestonesOf map) ≡ leaves (viewOf az el feed legs n) i
+
+  pub prune-starts :
+      (az el feed : List Float) (old : List ℕ) → length az ≡ 256 → length el ≡ 256 → length feed ≡ 256 → length old ≡ 256 →
+      Pruning az el feed (replicate 1024 0) old 0 0
+  unfolding prunedOf milestonesOf viewOf spanOf keepOf
+  prune-starts az el feed old p q r u =
+      let e : size map - 0 ≡ size map = omega arith in
+      record {
+        within = omega arith;
+        few = omega arith;
+        az-sized = p;
+        el-sized = q;
+        feed-sized = r;
+        legs-sized = refl;
+        old-sized = u;
+        clean = clean 1024 0;
+        below = λ j h. omega arith;
+        numbers = refl;
+        is = rw e;
+      }
+
+module _ {map : Roadmap} {k : KeepOut} {segment : Float} {az el feed : List Float} {legs old : List ℕ} {n i : ℕ}
+    (h : Pruning map k segment az el feed legs old n i) where
+  -- at the end these tables are the roadmap
+  pub prune-ends : size map ≤ i → viewOf az el feed legs n ≡ prunedOf segment k (milestonesOf map)
+  prune-ends e = sym (h .is ∙ turn-end (coversOf k) (hitOf segment k) (was map) (legAt (map .legs)) (size map) _ i e)
+
+  module _ (more : i < size map) {az′ el′ feed′ : List Float} {legs′ old′ : List ℕ} {n′ : ℕ} where
+    -- a milestone that is covered goes
+    pub prune-gone :
+        coversOf k (was map i) ≡ true → az′ ≡ az → el′ ≡ el → feed′ ≡ feed → legs′ ≡ legs → old′ ≡ old → n′ ≡ n →
+        Pruning map k segment az′ el′ feed′ legs′ old′ n′ (i + 1)
+    prune-gone e p q r u v w =
+        rw (p, q, r, u, v, w)
+        record {
+          within = omega arith;
+          few = omega (arith, h .few);
+          az-sized = h .az-sized;
+          el-sized = h .el-sized;
+          feed-sized = h .feed-sized;
+          legs-sized = h .legs-sized;
+          old-sized = h .old-sized;
+          clean = h .clean;
+          below = λ j b. omega (arith, h .below j b);
+          numbers = h .numbers ∙ sym (kept-gone (coversOf k) (hitOf segment k) (was map) i e);
+          is = h .is ∙ turn-gone (coversOf k) (hitOf segment k) (was map) (legAt (map .legs)) (size map) _ i more e;
+        }
+
+    -- another stays, with the legs that it keeps
+    pub prune-kept :
+        coversOf k (was map i) ≡ false → Joins legs n n (keeps map k segment old i) legs′ →
+        az′ ≡ set az n (was map i .az) → el′ ≡ set el n (was map i .el) → feed′ ≡ set feed n (was map i .feed) → old′ ≡ set old n i → n′ ≡ n + 1 →
+        Pruning map k segment az′ el′ feed′ legs′ old′ n′ (i + 1)
+    prune-kept e joins p q r v w =
+        let room : n < 256 = omega (arith, h .few) in
+        let roomy : n < length old = omega (arith, h .old-sized) in
+        let grows = view-add az el feed legs n (keeps map k segment old i) legs′ (was map i) (h .az-sized) (h .el-sized) (h .feed-sized) room (h .clean) joins in
+        let flags = left-kept (coversOf k) (hitOf segment k) (was map) (was map i) (legAt (map .legs) i) i (size map) n old (omega arith) (h .numbers) in
+        rw (p, q, r, v, w)
+        record {
+          within = omega arith;
+          few = omega (arith, h .few);
+          az-sized = length-set az n (was map i .az) ∙ h .az-sized;
+          el-sized = length-set el n (was map i .el) ∙ h .el-sized;
+          feed-sized = length-set feed n (was map i .feed) ∙ h .feed-sized;
+          legs-sized = joins .long ∙ h .legs-sized;
+          old-sized = length-set old n i ∙ h .old-sized;
+          clean = clean-add az el feed legs n (keeps map k segment old i) legs′ (was map i) (h .az-sized) (h .el-sized) (h .feed-sized) room (h .clean) joins;
+          below = old-below old n i roomy (h .below);
+          numbers =
+              old-more old n i roomy ∙ ap (λ (l : List ℕ). l ++ (i ∷ [])) (h .numbers)
+              ∙ sym (kept-more (coversOf k) (hitOf segment k) (was map) i e);
+          is =
+              h .is ∙ turn-kept (coversOf k) (hitOf segment k) (was map) (legAt (map .legs)) (size map) _ i more e
+              ∙ ap (λ (fs : List Bool). leaves map k segment (addOf (viewOf az el feed legs n) (was map i) fs) (i + 1)) flags
+              ∙ ap (λ (ms : List Milestone). leaves map k segment ms (i + 1)) (sym grows);
+        }

@@ -1,0 +1,2 @@
+pub mod Hit
+pub mod Prune
