@@ -52,6 +52,15 @@ use Rattle.star.specs.Run as star-run
 use Rattle.star.specs.Run.{StarPlan}
 use Rattle.rrt_star.specs.Planner as star
 use Rattle.rrt_star.specs.Solve as star-solve
+use Rattle.roadmap.specs.Map.{Milestone, milestoneAt, markOf, addOf, flagsOf}
+use Rattle.roadmap.specs.View.{spanOf}
+use Rattle.roadmap.specs.Construct as roadmap
+use Rattle.search.specs.Search as search
+use Rattle.search.specs.Query as search-query
+use Rattle.prm.specs.Planner as prm
+use Rattle.prm.specs.Construct as prm-construct
+use Rattle.prm.specs.Query as prm-query
+use Rattle.prm.specs.Query.{Reply}
 use Rattle.examples.specs.Words.{ratio, whole, at, on, origin, limits, segment, box, unused, none, same, sameState, sameLists, sameStates, sameNumbers, sameIndices}
 
 -- what an example says
@@ -72,6 +81,9 @@ pub data Case : Type 0 where
   connected : Float → State → Goal → List Float → List Float → ℕ → Case
   -- RRT* with this max_distance and search_radius, over a list of samples: the answer, and each node's parent and cost
   rewired : Float → Float → State → Goal → List Float → ℕ → List ℕ → List Float → Case
+  -- PRM with this connection_radius: a roadmap of a list of samples, and then a query from a start to a goal. The samples taken, each milestone's
+  -- neighbours, and the route's numbers
+  charted : Float → List Float → State → Goal → ℕ → List (List ℕ) → List Float → Case
 
 unfoldable pub counts : Steps → ℕ → Bool
 counts (Count n) m = eqb n m
@@ -107,6 +119,22 @@ unfoldable pub hangs : star.View → List ℕ → List Float → Bool
 hangs unset parents costs = false
 hangs (set plan tree) parents costs = sameIndices (tree .nodes .parents) parents && sameNumbers (tree .costs) costs
 
+-- the roadmap of a planner that is set up from the origin to the origin
+unfoldable pub chartedBy : Float → List Float → prm-construct.Construction
+chartedBy radius samples =
+    let goal : Goal = record { centre = origin; radius = whole 0 } in
+    let told = prm.setupOf prm.newOf limits (record { value = segment }) (record { value = radius }) origin goal emptyTable in
+    prm-construct.constructOf (told .planner) samples
+
+-- a query over it, of another start and goal
+unfoldable pub askedOf : prm.View → State → Goal → Reply
+askedOf planner start goal = prm-query.queryOf (prm.goalsOf planner start goal .planner) (replicate 771 unused)
+
+-- the neighbours of each milestone, in order
+unfoldable pub joins : prm.View → List (List ℕ) → Bool
+joins unset neighbours = false
+joins (set given ms) neighbours = sameLists sameIndices (spanOf 0 (length ms) (search.neighboursOf ms)) neighbours
+
 unfoldable pub holds : Case → Bool
 holds (distance a b d) = same (distanceOf a b) d
 holds (tested length from to n ss) = counts (stepsOf length from to) n && pointsAre (checkedOf length from to) ss
@@ -122,6 +150,11 @@ holds (connected max start goal samples numbers taken) =
 holds (rewired max search start goal samples answer parents costs) =
     let o = rewiredBy max search start goal samples in
     eqb (numberOf (o .answer)) answer && hangs (o .planner) parents costs
+holds (charted radius samples start goal taken neighbours numbers) =
+    let built = chartedBy radius samples in
+    let reply = askedOf (built .planner) start goal in
+    eqb (numberOf (built .answer)) 0 && joins (built .planner) neighbours
+    && gives 771 (reply .answer) (reply .count) (built .taken) (reply .route) numbers taken
 
 unfoldable pub allHold : List Case → Bool
 allHold [] = true
@@ -161,8 +194,14 @@ examples =
     ∷ rewired (whole 4) (ratio 15 10) origin (record { centre = on (whole 50); radius = whole 0 })
     (whole 3 ∷ whole 0 ∷ whole 0 ∷ whole 2 ∷ whole 0 ∷ whole 0 ∷ whole 1 ∷ whole 0 ∷ whole 0 ∷ []) 3
     (none ∷ 0 ∷ 3 ∷ 0 ∷ []) (whole 0 ∷ whole 3 ∷ whole 2 ∷ whole 1 ∷ [])
+    -- E11 PRM radius 2, samples (0,0,0),(2,0,0),(1,0,0): neighbours [2],[2],[0,1]. Query start (0,1,0), goal (2,0,0) radius 0: 0,1,0,1,0,0,2,0,0
+    ∷ charted (whole 2)
+    (whole 0 ∷ whole 0 ∷ whole 0 ∷ whole 2 ∷ whole 0 ∷ whole 0 ∷ whole 1 ∷ whole 0 ∷ whole 0 ∷ [])
+    (at (whole 0) (whole 1) (whole 0)) (record { centre = on (whole 2); radius = whole 0 }) 3
+    ((2 ∷ []) ∷ (2 ∷ []) ∷ (0 ∷ 1 ∷ []) ∷ [])
+    (whole 0 ∷ whole 1 ∷ whole 0 ∷ whole 1 ∷ whole 0 ∷ whole 0 ∷ whole 2 ∷ whole 0 ∷ whole 0 ∷ [])
     ∷ []
 
 pub examples-hold : T (allHold examples)
-unfolding examples allHold holds counts pointsAre gives plannedBy same sameState sameLists distanceOf widerOf apartOf interpolateOf steerBy steerOf satisfiedOf insideOf withinOf coordinateOf goodState atMostOf goodSpan goodLimits goodLength goodGoal coversOf coveredOf allGood goodTable keepOutsOf emptyTable validOf goodMount quotientOf searchOf leastOf stepsOf partWay partWays testedOf checkedAt checkedOf allValid acceptedOf acceptsOf allCoordinates goodSamples samplesOf grownOf rootOf nearestFrom nearestOf stepFrom stepOf climbOf pathOf flatOf writtenOf goodSetup setupWith setupOf afterOf runOf endedOf solveWith solveOf connectedBy ancestorsOf upwardsOf afterStep extendOf connectEnds byVerdict turnOf roundOf endPath planner.setupOf run.afterOf run.runOf connect.solveOf rewiredBy hangs neighboursFrom neighboursOf costVia isBetter chooseFrom chooseOf costUnder moves rewireOf addedOf grow.afterStep growOf star-run.afterOf star-run.runOf star.setupOf star-solve.solveOf add sub mul div lt le ofInt ofBits toBits
+unfolding examples allHold holds counts pointsAre gives plannedBy same sameState sameLists distanceOf widerOf apartOf interpolateOf steerBy steerOf satisfiedOf insideOf withinOf coordinateOf goodState atMostOf goodSpan goodLimits goodLength goodGoal coversOf coveredOf allGood goodTable keepOutsOf emptyTable validOf goodMount quotientOf searchOf leastOf stepsOf partWay partWays testedOf checkedAt checkedOf allValid acceptedOf acceptsOf allCoordinates goodSamples samplesOf grownOf rootOf nearestFrom nearestOf stepFrom stepOf climbOf pathOf flatOf writtenOf goodSetup setupWith setupOf afterOf runOf endedOf solveWith solveOf connectedBy ancestorsOf upwardsOf afterStep extendOf connectEnds byVerdict turnOf roundOf endPath planner.setupOf run.afterOf run.runOf connect.solveOf rewiredBy hangs neighboursFrom neighboursOf costVia isBetter chooseFrom chooseOf costUnder moves rewireOf addedOf grow.afterStep growOf star-run.afterOf star-run.runOf star.setupOf star-solve.solveOf chartedBy askedOf joins spanOf milestoneAt markOf addOf flagsOf roadmap.joinedOf roadmap.runOf roadmap.constructOf search.numbersOf search.connectionsOf search.neighboursOf search.placeAt search.queuedOf search.pushOf search.searchOf search-query.goalOf search-query.soughtOf search-query.treeOf search-query.routeOf search-query.queryOf prm.setupOf prm.goalsOf prm-construct.constructOf prm-query.foundOf prm-query.queryOf add sub mul div lt le ofInt ofBits toBits
 examples-hold = tt

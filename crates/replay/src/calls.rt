@@ -2,8 +2,10 @@
 use grammar::Planner;
 use mount_calls::Kept;
 use planner_calls::connect_calls;
+use planner_calls::prm_calls;
 use planner_calls::rrt_calls;
 use planner_calls::star_calls;
+use prm::Prm;
 use rrt::Rrt;
 use rrt_connect::RrtConnect;
 use rrt_star::RrtStar;
@@ -18,6 +20,7 @@ struct Planners {
     rrt: Rrt,
     connect: RrtConnect,
     star: RrtStar,
+    prm: Prm,
 }
 
 // What came of a line: whether it is a call that was made, and the planners after it.
@@ -48,7 +51,7 @@ fn of_line(numbers: &[f64], count: usize) -> &[f64] {
     numbers
 }
 
-// Makes a call and writes what it answered, if it is one of a planner that is here.
+// Makes a call and writes what it answered, if it is one that a planner here has.
 fn make(out: &mut [u8], space: &[f64], planners: Planners, line: Line) -> Made {
     let numbers = of_line(space, line.count);
     let planner = line.planner;
@@ -93,11 +96,31 @@ fn make(out: &mut [u8], space: &[f64], planners: Planners, line: Line) -> Made {
                 planners: after,
             }
         }
-        _ => Made {
+        Planner::Prm => {
+            let called = prm_calls::call(out, planners.prm, line, numbers);
+            let prm = called.planner;
+            let mut after = planners;
+            after.prm = prm;
+            Made {
+                is_call: called.is_made,
+                planners: after,
+            }
+        }
+        Planner::Other => Made {
             is_call: false,
             planners,
         },
     }
+}
+
+// Makes the call of a line, of which the number is given, or says that it is none.
+fn answer(out: &mut [u8], space: &[f64], planners: Planners, line: Line, number: u64) -> Made {
+    let made = make(out, space, planners, line);
+    if made.is_call {
+        return made;
+    }
+    write_no_call(out, number);
+    made
 }
 
 // One line, of which the number is given.
@@ -119,18 +142,10 @@ fn step(
             input,
         },
         Kind::Call => {
-            let made = make(out, space, planners, line);
+            let made = answer(out, space, planners, line, number);
             let after = made.planners;
-            if made.is_call {
-                return Script {
-                    goes_on: true,
-                    planners: after,
-                    input,
-                };
-            }
-            write_no_call(out, number);
             Script {
-                goes_on: false,
+                goes_on: made.is_call,
                 planners: after,
                 input,
             }
@@ -151,11 +166,13 @@ fn uninitialised() -> Planners {
     let rrt = Rrt::new();
     let connect = RrtConnect::new();
     let star = RrtStar::new();
+    let prm = Prm::new();
     Planners {
         mount,
         rrt,
         connect,
         star,
+        prm,
     }
 }
 
