@@ -26,8 +26,8 @@ fn hits(k: KeepOut, segment: f64, from: State, to: State) -> bool
     let whole = n as f64;
     let mut i: usize = 1;
     'points: while i <= n {
-        let s = from.interpolate(to, i as f64 / whole);
-        if k.covers(s) {
+        let point = from.interpolate(to, i as f64 / whole);
+        if k.covers(point) {
             return true;
         }
         i += 1;

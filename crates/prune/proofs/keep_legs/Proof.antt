@@ -43,7 +43,7 @@ element-copy-out-o : tie.Need-element-copy-out-o Inv-earlier μ-earlier
 element-copy-out-o c = omega arith
 
 leg-requires : tie.Need-leg-requires Inv-earlier μ-earlier
-leg-requires c κs = (omega arith, low (c .before))
+leg-requires c κs = (omega arith, omega (arith, low (c .before)))
 
 mul-t21 : tie.Need-mul-t21 Inv-earlier μ-earlier
 mul-t21 c = omega (arith, low (c .before .before .before))
@@ -68,8 +68,9 @@ hits-requires c κs = search needs
 
 link-requires : tie.Need-link-requires Inv-earlier μ-earlier
 link-requires c κs =
-    let h = c .before .before .before .before .before .before .before .before .before .before in
-    (omega arith, omega arith, h .earlier .inv .1 .long ∙ h .before .pre .2)
+    let turn = c .before .before .before .before .before .before .before .before .before in
+    let h = turn .before in
+    (omega arith, omega (arith, low turn), h .earlier .inv .1 .long ∙ h .before .pre .2)
 
 add-j : tie.Need-add-j Inv-earlier μ-earlier
 add-j c = omega arith

@@ -67,28 +67,28 @@ abbrev after : tie.After-keep-legs Inv-milestones μ-milestones → tie.In-miles
 after c = c .before .before .before .before .before .before .before .before .before .before .before .before .before
 
 mul-az : tie.Need-mul-az Inv-milestones μ-milestones
-mul-az c = omega (arith, room (after c))
+mul-az c = omega (arith, inside (after c), room (after c))
 
 array-write-az : tie.Need-array-write-az Inv-milestones μ-milestones
-array-write-az c = room (after c)
+array-write-az c = omega (arith, inside (after c), room (after c))
 
 mul-el : tie.Need-mul-el Inv-milestones μ-milestones
-mul-el c = omega (arith, room (after c))
+mul-el c = omega (arith, inside (after c), room (after c))
 
 array-write-el : tie.Need-array-write-el Inv-milestones μ-milestones
-array-write-el c = room (after c)
+array-write-el c = omega (arith, inside (after c), room (after c))
 
 mul-feed : tie.Need-mul-feed Inv-milestones μ-milestones
-mul-feed c = omega (arith, room (after c))
+mul-feed c = omega (arith, inside (after c), room (after c))
 
 array-write-feed : tie.Need-array-write-feed Inv-milestones μ-milestones
-array-write-feed c = room (after c)
+array-write-feed c = omega (arith, inside (after c), room (after c))
 
 mul-old : tie.Need-mul-old Inv-milestones μ-milestones
-mul-old c = omega (arith, room (after c))
+mul-old c = omega (arith, inside (after c), room (after c))
 
 array-write-old : tie.Need-array-write-old Inv-milestones μ-milestones
-array-write-old c = room (after c)
+array-write-old c = omega (arith, inside (after c), room (after c))
 
 add-count : tie.Need-add-count Inv-milestones μ-milestones
 add-count c = omega (arith, room (after c))
