@@ -1,4 +1,4 @@
-//! Times the tree planners' setup and solve in the original Rust and in the proved code: one run, the same inputs, thread time, the best of
+//! Times the planners' setup and solve, or construction, and a roadmap's query in the original Rust and in the proved code: one run, the same inputs, thread time, the best of
 //! many rounds. Compiled without `--cfg proved` it times the Rust alone.
 
 #[path = "timing/original.rs"]
@@ -9,6 +9,8 @@ mod proved;
 #[path = "scenes/random.rs"]
 #[allow(dead_code)]
 mod random;
+#[path = "timing/queries.rs"]
+mod queries;
 #[path = "timing/thread_time.rs"]
 mod thread_time;
 #[path = "timing/workloads.rs"]
@@ -30,13 +32,15 @@ fn main() {
             None => println!("; the proved code is left out"),
         }
     }
+    queries::report("j: PRM, a query of the roadmap of (i)", ROUNDS);
 }
 
 fn describe(workload: &Workload) {
     let samples = workload.samples.len();
     let nodes = original::nodes(workload);
     let points = original::points(workload) as f64 / samples as f64;
-    let refused = 100.0 * samples.saturating_sub(nodes - 1) as f64 / samples as f64;
+    let root = (workload.planner != Planner::Prm) as usize;
+    let refused = 100.0 * samples.saturating_sub(nodes - root) as f64 / samples as f64;
     let keep_outs = workload.mount.keep_outs.len();
     println!("{}", workload.name);
     println!(

@@ -18,11 +18,13 @@ type Kinds = *const [u8; 32];
 type Numbers = *const [f64; 192];
 
 // Setup and one solve. An array is handed over as its address, a slice as its address and its length: the setup; the keep-outs' kinds,
-// numbers and count; the samples; the route buffer. RRT* has its search radius after the setup.
+// numbers and count; the samples; the route buffer. RRT* has its search radius after the setup, and PRM how many queries follow its construction
+// before the route buffer.
 unsafe extern "C" {
     fn rindmosaic_rrt(_: Setup, _: Kinds, _: Numbers, _: usize, _: *const f64, _: usize, _: *mut f64, _: usize) -> Report;
     fn rindmosaic_connect(_: Setup, _: Kinds, _: Numbers, _: usize, _: *const f64, _: usize, _: *mut f64, _: usize) -> Report;
     fn rindmosaic_star(_: Setup, _: f64, _: Kinds, _: Numbers, _: usize, _: *const f64, _: usize, _: *mut f64, _: usize) -> Report;
+    fn rindmosaic_prm(_: Setup, _: Kinds, _: Numbers, _: usize, _: *const f64, _: usize, _: usize, _: *mut f64, _: usize) -> Report;
 }
 
 /// The longest route buffer that a solve needs.
@@ -81,7 +83,13 @@ fn keep_out_numbers(keep_out: &KeepOut) -> Vec<f64> {
     }
 }
 
+/// Setup and one solve, or one construction.
 pub fn run(prepared: &mut Prepared) -> Outcome {
+    run_with(prepared, 0)
+}
+
+/// The same, and queries of a roadmap that is built.
+pub fn run_with(prepared: &mut Prepared, queries: usize) -> Outcome {
     let Prepared { planner, setup, kinds, numbers, keep_outs, samples, route } = prepared;
     let (list, length) = (samples.as_ptr(), samples.len());
     let (memory, room) = (route.as_mut_ptr(), route.len());
@@ -92,6 +100,7 @@ pub fn run(prepared: &mut Prepared) -> Outcome {
             Planner::Star { search_radius } => {
                 rindmosaic_star(setup, search_radius, kinds, numbers, *keep_outs, list, length, memory, room)
             }
+            Planner::Prm => rindmosaic_prm(setup, kinds, numbers, *keep_outs, list, length, queries, memory, room),
         }
     };
     Outcome { answer: report.answer as u64, count: report.count as u64, taken: report.taken as u64 }

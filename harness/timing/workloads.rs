@@ -9,6 +9,8 @@ pub enum Planner {
     Rrt,
     Connect,
     Star { search_radius: f64 },
+    /// Its connection radius stands where the others have max_distance.
+    Prm,
 }
 
 pub struct Workload {
@@ -22,7 +24,12 @@ pub struct Workload {
     pub samples: Vec<State>,
 }
 
-const FULL_TREE: usize = 512;
+impl Planner {
+    /// How many nodes or milestones its table has room for.
+    fn room(self) -> usize {
+        if self == Planner::Prm { 256 } else { 512 }
+    }
+}
 
 pub fn all() -> Vec<Workload> {
     vec![
@@ -34,6 +41,7 @@ pub fn all() -> Vec<Workload> {
         filled(apart("f: RRT-Connect, both trees to 512, 8 keep-outs", at_both_ends())),
         filled(crowded("g: RRT*, 511 nodes, no keep-outs", Vec::new())),
         filled(crowded("h: RRT*, 511 nodes, 8 keep-outs", eight())),
+        roadmap("i: PRM, 256 milestones, 8 keep-outs"),
     ]
 }
 
@@ -66,6 +74,19 @@ fn crowded(name: &'static str, keep_outs: Vec<KeepOut>) -> Workload {
     workload
 }
 
+/// A roadmap in which a milestone has about fifteen neighbours. Its query goes from the milestone that lies lowest in azimuth to the one that lies
+/// highest, so that most of the roadmap is searched.
+pub fn roadmap(name: &'static str) -> Workload {
+    let mut workload = dish(name, 46.0, eight());
+    workload.planner = Planner::Prm;
+    let mut workload = filled(workload);
+    let mut states = original::states(&workload);
+    states.sort_by(|one, other| one.axes()[0].total_cmp(&other.axes()[0]));
+    workload.start = states[0];
+    workload.goal = GoalRegion { centre: states[states.len() - 1], radius: 0.0 };
+    workload
+}
+
 fn workload(name: &'static str, mount: Mount, max_distance: f64, start: State) -> Workload {
     let goal = GoalRegion { centre: State::new(&[1024.0; 3]), radius: 0.0 };
     let mut workload = Workload { name, planner: Planner::Rrt, mount, segment: 10.0, max_distance, start, goal, samples: Vec::new() };
@@ -81,7 +102,7 @@ fn filled(mut workload: Workload) -> Workload {
     while low < high {
         let middle = (low + high) / 2;
         workload.samples = all[..middle].to_vec();
-        if original::nodes(&workload) < FULL_TREE {
+        if original::nodes(&workload) < workload.planner.room() {
             low = middle + 1;
         } else {
             high = middle;

@@ -44,13 +44,15 @@ module _ {P A : Type 0} (solve : Planner P A → List Float → List Float → O
     pub call-refused : (n ≡ 0 → ⊥) → (r : Report) → r ≡ record { answer = n; count = 0; taken = 0 } → Calls r old
     call-refused h r is-r = rw is-r (gives _ _ (rw told (refused h)))
 
-    solved :
-        n ≡ 0 → (o : Outcome P A) → o ≡ solve (made .planner) samples old → (a : ℕ) → a ≡ numberOf (o .answer) →
-        Reports (callWith solve known made samples old) (record { answer = a; count = o .count; taken = o .taken }) (o .route)
+    reported :
+        n ≡ 0 → (r : Report) (new : List Float) → Reports (solve (made .planner) samples old) r new → Reports (callWith solve known made samples old) r new
     unfolding callWith
-    solved z o is-o a is-a = rw (e, ← is-n, eq-eqb n 0 z, ← is-o) (record { answer = is-a; count = refl; taken = refl; memory = refl })
+    reported z r new w = rw (e, ← is-n, eq-eqb n 0 z) w
+
+    pub call-reported : n ≡ 0 → (r : Report) (new : List Float) → Reports (solve (made .planner) samples old) r new → Calls r new
+    call-reported z r new w = gives _ _ (rw told (reported z r new w))
 
     pub call-solved :
         n ≡ 0 → (o : Outcome P A) → o ≡ solve (made .planner) samples old → (a : ℕ) → a ≡ numberOf (o .answer) →
         Calls (record { answer = a; count = o .count; taken = o .taken }) (o .route)
-    call-solved z o is-o a is-a = gives _ _ (rw told (solved z o is-o a is-a))
+    call-solved z o is-o a is-a = call-reported z _ _ (rw (← is-o) (record { answer = is-a; count = refl; taken = refl; memory = refl }))

@@ -2,3 +2,4 @@
 pub mod Listing
 pub mod Known
 pub mod Calls
+pub mod Chart

@@ -1,3 +1,4 @@
 pub mod Setup
 pub mod Table
 pub mod Call
+pub mod Chart

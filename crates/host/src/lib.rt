@@ -6,7 +6,10 @@ use state::Length;
 ghost use mathlib.Core.Path.{_≡_};
 ghost use Rattle.host.specs.Call.{Called, rrtCall, connectCall, starCall};
 
+mod charting;
 mod given;
+
+pub use charting::rindmosaic_prm;
 
 // The answer's number in document 01's table, the route's number of states, and the samples taken.
 #[repr(C)]

@@ -1,0 +1,49 @@
+-- `host::charting::chart` meets its contract.
+use borrow.Author.Needs.{needs}
+use Rattle.prm.specs.Construct.{constructedOf}
+use Rattle.prm.specs.Query.{queriedOf}
+use Rattle.host.proofs.Chart.{chart-done, chart-refused}
+use Rattle.host.proofs.charting.chart.Statement.{statement}
+use Rattle.host.proofs.charting.chart.Tie as tie
+
+construct-roadmap-requires : tie.Need-construct-roadmap-requires
+construct-roadmap-requires c κs = search needs
+
+number-requires : tie.Need-number-requires
+number-requires c κs = search needs
+
+ask-requires : tie.Need-ask-requires
+ask-requires c κs = search needs
+
+number-requires-2 : tie.Need-number-requires-2
+number-requires-2 c κs = search needs
+
+same-length : tie.Need-same-length
+same-length c = search needs
+
+returns : tie.Need-returns
+returns c =
+    let asked = c .before .before .before in
+    let test = asked .before .before in
+    let number = test .before in
+    let build = number .before .construct-roadmap in
+    chart-done _ _ _ _ (constructedOf (build .result)) (build .ensures) _ (number .number .ensures) (test .if1 .taken) (queriedOf (asked .ask .result) _)
+    (asked .ask .ensures) _ (c .number2 .ensures)
+
+returns-2 : tie.Need-returns-2
+returns-2 c =
+    let number = c .before in
+    let build = number .before .construct-roadmap in
+    chart-refused _ _ _ _ (constructedOf (build .result)) (build .ensures) _ (number .number .ensures) (c .if1 .left)
+
+pub chart-spec : {M : Type 1} → statement M
+chart-spec =
+    tie.close
+    (tie.spec
+    construct-roadmap-requires
+    number-requires
+    ask-requires
+    number-requires-2
+    same-length
+    returns
+    returns-2)
