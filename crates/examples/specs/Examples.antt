@@ -2,7 +2,7 @@
 -- A new kind of example is a constructor of `Case` and a line of `holds`; a new example is a row.
 use Prim.Native.Nat.{ℕ, _^_, _*_, _-_}
 use mathlib.Core.Bool.{Bool, true, false, _&&_, Bool·beq}
-use mathlib.Core.List.{List, [], _∷_, _++_}
+use mathlib.Core.List.{List, [], _∷_, _++_, map}
 use lib.Dec.{T, eqb}
 use lib.ListN.{length, replicate}
 use lib.Ieee.{Float, add, sub, mul, div, lt, le, ofInt, ofBits, toBits}
@@ -15,7 +15,7 @@ use Rattle.state.specs.Satisfied.{satisfiedOf}
 use Rattle.state.specs.declared.State.{State}
 use Rattle.state.specs.declared.Goal.{Goal}
 use Rattle.keep_out.specs.Covers.{coversOf, coveredOf}
-use Rattle.keep_out.specs.Good.{allGood, goodTable}
+use Rattle.keep_out.specs.Good.{goodKeepOut, allGood, goodTable}
 use Rattle.keep_out.specs.Table.{keepOutsOf, emptyTable}
 use Rattle.keep_out.specs.declared.KeepOut.{KeepOut}
 use Rattle.keep_out.specs.declared.KeepOut.the-variants.{Disc}
@@ -33,6 +33,7 @@ use Rattle.route.specs.Written.{flatOf, writtenOf}
 use Rattle.plan.specs.Plan.{Plan, unset, set}
 use Rattle.plan.specs.Setup.{goodSetup, setupWith}
 use Rattle.plan.specs.Solve.{Outcome, endedOf, solveWith}
+use Rattle.plan.specs.KeepOut.{longerOf}
 use Rattle.rrt.specs.Planner.{newOf, setupOf}
 use Rattle.rrt_run.specs.Run.{afterOf, runOf}
 use Rattle.rrt.specs.Solve.{solveOf}
@@ -57,10 +58,13 @@ use Rattle.roadmap.specs.View.{spanOf}
 use Rattle.roadmap.specs.Construct as roadmap
 use Rattle.search.specs.Search as search
 use Rattle.search.specs.Query as search-query
+use Rattle.prune.specs.Hit.{meetsOf, hitAmong, hitOf}
+use Rattle.prune.specs.Prune.{leftOf, leavesOf, prunedOf}
 use Rattle.prm.specs.Planner as prm
 use Rattle.prm.specs.Construct as prm-construct
 use Rattle.prm.specs.Query as prm-query
 use Rattle.prm.specs.Query.{Reply}
+use Rattle.prm.specs.Adding as prm-adding
 use Rattle.examples.specs.Words.{ratio, whole, at, on, origin, limits, segment, box, unused, none, same, sameState, sameLists, sameStates, sameNumbers, sameIndices}
 
 -- what an example says
@@ -84,6 +88,8 @@ pub data Case : Type 0 where
   -- PRM with this connection_radius: a roadmap of a list of samples, and then a query from a start to a goal. The samples taken, each milestone's
   -- neighbours, and the route's numbers
   charted : Float → List Float → State → Goal → ℕ → List (List ℕ) → List Float → Case
+  -- the same, with keep-outs added one by one before the query: the milestones and each one's neighbours, and the query's answer and route
+  pruned : Float → List Float → List KeepOut → State → Goal → List State → List (List ℕ) → ℕ → List Float → Case
 
 unfoldable pub counts : Steps → ℕ → Bool
 counts (Count n) m = eqb n m
@@ -93,11 +99,14 @@ unfoldable pub pointsAre : Checked → List State → Bool
 pointsAre tooMany ss = false
 pointsAre (points ts) ss = sameStates ts ss
 
--- done: the route's numbers stand at the front of a buffer of that length, and every number behind them is kept
+-- the route's numbers stand at the front of a buffer of that length, and every number behind them is kept
+unfoldable pub writes : ℕ → ℕ → List Float → List Float → Bool
+writes size count route numbers =
+    eqb (3 * count) (length numbers) && sameNumbers route (numbers ++ replicate (size - length numbers) unused)
+
+-- done, with that route
 unfoldable pub gives : ℕ → Answer → ℕ → ℕ → List Float → List Float → ℕ → Bool
-gives size answer count taken route numbers samples =
-    eqb (numberOf answer) 0 && eqb (3 * count) (length numbers) && eqb taken samples
-    && sameNumbers route (numbers ++ replicate (size - length numbers) unused)
+gives size answer count taken route numbers samples = eqb (numberOf answer) 0 && eqb taken samples && writes size count route numbers
 
 unfoldable pub plannedBy : Float → State → Goal → List Float → Outcome Plan Nodes
 plannedBy max start goal samples =
@@ -135,6 +144,18 @@ unfoldable pub joins : prm.View → List (List ℕ) → Bool
 joins unset neighbours = false
 joins (set given ms) neighbours = sameLists sameIndices (spanOf 0 (length ms) (search.neighboursOf ms)) neighbours
 
+-- the milestones, in order
+unfoldable pub stands : prm.View → List State → Bool
+stands unset states = false
+stands (set given ms) states = sameStates (map (λ (m : Milestone). m .at) ms) states
+
+-- keep-outs added one by one, each of them accepted
+unfoldable pub takesAll : prm.View → List KeepOut → Bool
+takesAll planner [] = true
+takesAll planner (k ∷ ks) =
+    let told = prm-adding.addOf planner k in
+    eqb (numberOf (told .answer)) 0 && takesAll (told .planner) ks
+
 unfoldable pub holds : Case → Bool
 holds (distance a b d) = same (distanceOf a b) d
 holds (tested length from to n ss) = counts (stepsOf length from to) n && pointsAre (checkedOf length from to) ss
@@ -155,6 +176,12 @@ holds (charted radius samples start goal taken neighbours numbers) =
     let reply = askedOf (built .planner) start goal in
     eqb (numberOf (built .answer)) 0 && joins (built .planner) neighbours
     && gives 771 (reply .answer) (reply .count) (built .taken) (reply .route) numbers taken
+holds (pruned radius samples ks start goal states neighbours answer numbers) =
+    let built = chartedBy radius samples .planner in
+    let left = prm-adding.addedAll built ks in
+    let reply = askedOf left start goal in
+    takesAll built ks && stands left states && joins left neighbours
+    && eqb (numberOf (reply .answer)) answer && writes 771 (reply .count) (reply .route) numbers
 
 unfoldable pub allHold : List Case → Bool
 allHold [] = true
@@ -200,8 +227,21 @@ examples =
     (at (whole 0) (whole 1) (whole 0)) (record { centre = on (whole 2); radius = whole 0 }) 3
     ((2 ∷ []) ∷ (2 ∷ []) ∷ (0 ∷ 1 ∷ []) ∷ [])
     (whole 0 ∷ whole 1 ∷ whole 0 ∷ whole 1 ∷ whole 0 ∷ whole 0 ∷ whole 2 ∷ whole 0 ∷ whole 0 ∷ [])
+    -- E12 to E11 add box (1.4,0,0)-(1.6,1,1): nothing changes
+    ∷ pruned (whole 2)
+    (whole 0 ∷ whole 0 ∷ whole 0 ∷ whole 2 ∷ whole 0 ∷ whole 0 ∷ whole 1 ∷ whole 0 ∷ whole 0 ∷ [])
+    (box (ratio 14 10) (ratio 16 10) ∷ [])
+    (at (whole 0) (whole 1) (whole 0)) (record { centre = on (whole 2); radius = whole 0 })
+    (origin ∷ on (whole 2) ∷ on (whole 1) ∷ []) ((2 ∷ []) ∷ (2 ∷ []) ∷ (0 ∷ 1 ∷ []) ∷ []) 0
+    (whole 0 ∷ whole 1 ∷ whole 0 ∷ whole 1 ∷ whole 0 ∷ whole 0 ∷ whole 2 ∷ whole 0 ∷ whole 0 ∷ [])
+    -- E12 then box (0.9,0,0)-(1.1,1,1): milestones (0,0,0),(2,0,0), no legs; the query gives 7
+    ∷ pruned (whole 2)
+    (whole 0 ∷ whole 0 ∷ whole 0 ∷ whole 2 ∷ whole 0 ∷ whole 0 ∷ whole 1 ∷ whole 0 ∷ whole 0 ∷ [])
+    (box (ratio 14 10) (ratio 16 10) ∷ box (ratio 9 10) (ratio 11 10) ∷ [])
+    (at (whole 0) (whole 1) (whole 0)) (record { centre = on (whole 2); radius = whole 0 })
+    (origin ∷ on (whole 2) ∷ []) ([] ∷ [] ∷ []) 7 []
     ∷ []
 
 pub examples-hold : T (allHold examples)
-unfolding examples allHold holds counts pointsAre gives plannedBy same sameState sameLists distanceOf widerOf apartOf interpolateOf steerBy steerOf satisfiedOf insideOf withinOf coordinateOf goodState atMostOf goodSpan goodLimits goodLength goodGoal coversOf coveredOf allGood goodTable keepOutsOf emptyTable validOf goodMount quotientOf searchOf leastOf stepsOf partWay partWays testedOf checkedAt checkedOf allValid acceptedOf acceptsOf allCoordinates goodSamples samplesOf grownOf rootOf nearestFrom nearestOf stepFrom stepOf climbOf pathOf flatOf writtenOf goodSetup setupWith setupOf afterOf runOf endedOf solveWith solveOf connectedBy ancestorsOf upwardsOf afterStep extendOf connectEnds byVerdict turnOf roundOf endPath planner.setupOf run.afterOf run.runOf connect.solveOf rewiredBy hangs neighboursFrom neighboursOf costVia isBetter chooseFrom chooseOf costUnder moves rewireOf addedOf grow.afterStep growOf star-run.afterOf star-run.runOf star.setupOf star-solve.solveOf chartedBy askedOf joins spanOf milestoneAt markOf addOf flagsOf roadmap.joinedOf roadmap.runOf roadmap.constructOf search.numbersOf search.connectionsOf search.neighboursOf search.placeAt search.queuedOf search.pushOf search.searchOf search-query.goalOf search-query.soughtOf search-query.treeOf search-query.routeOf search-query.queryOf prm.setupOf prm.goalsOf prm-construct.constructOf prm-query.foundOf prm-query.queryOf add sub mul div lt le ofInt ofBits toBits
+unfolding examples allHold holds counts pointsAre writes gives plannedBy same sameState sameLists distanceOf widerOf apartOf interpolateOf steerBy steerOf satisfiedOf insideOf withinOf coordinateOf goodState atMostOf goodSpan goodLimits goodLength goodGoal coversOf coveredOf allGood goodTable keepOutsOf emptyTable validOf goodMount quotientOf searchOf leastOf stepsOf partWay partWays testedOf checkedAt checkedOf allValid acceptedOf acceptsOf allCoordinates goodSamples samplesOf grownOf rootOf nearestFrom nearestOf stepFrom stepOf climbOf pathOf flatOf writtenOf goodSetup setupWith setupOf afterOf runOf endedOf solveWith solveOf connectedBy ancestorsOf upwardsOf afterStep extendOf connectEnds byVerdict turnOf roundOf endPath planner.setupOf run.afterOf run.runOf connect.solveOf rewiredBy hangs neighboursFrom neighboursOf costVia isBetter chooseFrom chooseOf costUnder moves rewireOf addedOf grow.afterStep growOf star-run.afterOf star-run.runOf star.setupOf star-solve.solveOf chartedBy askedOf joins spanOf milestoneAt markOf addOf flagsOf roadmap.joinedOf roadmap.runOf roadmap.constructOf search.numbersOf search.connectionsOf search.neighboursOf search.placeAt search.queuedOf search.pushOf search.searchOf search-query.goalOf search-query.soughtOf search-query.treeOf search-query.routeOf search-query.queryOf prm.setupOf prm.goalsOf prm-construct.constructOf prm-query.foundOf prm-query.queryOf stands takesAll goodKeepOut longerOf meetsOf hitAmong hitOf leftOf leavesOf prunedOf prm-adding.addOf prm-adding.addedAll add sub mul div lt le ofInt ofBits toBits
 examples-hold = tt

@@ -26,6 +26,13 @@ fn setup(out: &mut [u8], planner: RrtConnect, numbers: &[f64], table: KeepOuts) 
     done.planner
 }
 
+fn keepout(out: &mut [u8], planner: RrtConnect, table: KeepOuts) -> RrtConnect {
+    let done = planner.add_keep_out(given::keep_out(table));
+    let answer = done.answer;
+    replies::answered(out, answer, 0);
+    done.planner
+}
+
 // The route buffer is the first capacity numbers of a fresh one.
 fn solve(out: &mut [u8], planner: RrtConnect, capacity: usize, samples: &[f64]) -> RrtConnect {
     let mut buffer = route_buffer::fresh();
@@ -69,6 +76,13 @@ pub fn call(out: &mut [u8], planner: RrtConnect, line: Line, numbers: &[f64]) ->
             Called {
                 is_made: true,
                 planner: setup(out, planner, numbers, table),
+            }
+        }
+        Verb::Keepout => {
+            let table = line.table;
+            Called {
+                is_made: true,
+                planner: keepout(out, planner, table),
             }
         }
         Verb::Solve => Called {

@@ -28,6 +28,13 @@ fn setup(out: &mut [u8], planner: Prm, numbers: &[f64], table: KeepOuts) -> Prm 
     done.planner
 }
 
+fn keepout(out: &mut [u8], planner: Prm, table: KeepOuts) -> Prm {
+    let done = planner.add_keep_out(given::keep_out(table));
+    let answer = done.answer;
+    replies::answered(out, answer, 0);
+    done.planner
+}
+
 fn construct(out: &mut [u8], planner: Prm, samples: &[f64]) -> Prm {
     let done = planner.construct_roadmap(samples);
     let answer = done.answer;
@@ -105,6 +112,13 @@ pub fn call(out: &mut [u8], planner: Prm, line: Line, numbers: &[f64]) -> Called
             Called {
                 is_made: true,
                 planner: setup(out, planner, numbers, table),
+            }
+        }
+        Verb::Keepout => {
+            let table = line.table;
+            Called {
+                is_made: true,
+                planner: keepout(out, planner, table),
             }
         }
         Verb::Construct => Called {

@@ -26,6 +26,13 @@ fn setup(out: &mut [u8], planner: Rrt, numbers: &[f64], table: KeepOuts) -> Rrt 
     done.planner
 }
 
+fn keepout(out: &mut [u8], planner: Rrt, table: KeepOuts) -> Rrt {
+    let done = planner.add_keep_out(given::keep_out(table));
+    let answer = done.answer;
+    replies::answered(out, answer, 0);
+    done.planner
+}
+
 // The route buffer is the first capacity numbers of a fresh one.
 fn solve(out: &mut [u8], planner: Rrt, capacity: usize, samples: &[f64]) -> Rrt {
     let mut buffer = route_buffer::fresh();
@@ -57,6 +64,13 @@ pub fn call(out: &mut [u8], planner: Rrt, line: Line, numbers: &[f64]) -> Called
             Called {
                 is_made: true,
                 planner: setup(out, planner, numbers, table),
+            }
+        }
+        Verb::Keepout => {
+            let table = line.table;
+            Called {
+                is_made: true,
+                planner: keepout(out, planner, table),
             }
         }
         Verb::Solve => Called {

@@ -37,6 +37,13 @@ fn setup(out: &mut [u8], planner: RrtStar, numbers: &[f64], table: KeepOuts) -> 
     done.planner
 }
 
+fn keepout(out: &mut [u8], planner: RrtStar, table: KeepOuts) -> RrtStar {
+    let done = planner.add_keep_out(given::keep_out(table));
+    let answer = done.answer;
+    replies::answered(out, answer, 0);
+    done.planner
+}
+
 // The route buffer is the first capacity numbers of a fresh one.
 fn solve(out: &mut [u8], planner: RrtStar, capacity: usize, samples: &[f64]) -> RrtStar {
     let mut buffer = route_buffer::fresh();
@@ -80,6 +87,13 @@ pub fn call(out: &mut [u8], planner: RrtStar, line: Line, numbers: &[f64]) -> Ca
             Called {
                 is_made: true,
                 planner: setup(out, planner, numbers, table),
+            }
+        }
+        Verb::Keepout => {
+            let table = line.table;
+            Called {
+                is_made: true,
+                planner: keepout(out, planner, table),
             }
         }
         Verb::Solve => Called {

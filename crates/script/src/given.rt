@@ -1,4 +1,6 @@
 // What the numbers of a line stand for. The place is that of the first number.
+use keep_out::KeepOut;
+use keep_out::KeepOuts;
 use state::Goal;
 use state::Length;
 use state::Limits;
@@ -52,4 +54,10 @@ pub fn limits(numbers: &[f64]) -> Limits {
         feed: number(numbers, 5),
     };
     Limits { low, high }
+}
+
+// The keep-out of a line whose row asks for one: it comes first in the table.
+pub fn keep_out(table: KeepOuts) -> KeepOut {
+    let slot = table.slots[0];
+    slot.held
 }
