@@ -18,7 +18,9 @@ use Rattle.roadmap.proofs.View.{clean}
 use Rattle.roadmap.proofs.Grows.{view-add, clean-add}
 use Rattle.prune.specs.Hit.{hitOf}
 use Rattle.prune.specs.Prune.{prunedOf}
-use Rattle.prune.proofs.Turns.{itself, stands, old-more, old-below, left-kept, kept-gone, kept-more, leavesAt, turn-gone, turn-kept, turn-end}
+use Rattle.prune.specs.Numbers.{Numbers}
+use Rattle.prune.proofs.Numbered.{none, filled, numbers-gone, numbers-kept, placed-kept}
+use Rattle.prune.proofs.Turns.{itself, stands, old-more, left-kept, kept-gone, kept-more, leavesAt, turn-gone, turn-kept, turn-end}
 
 module _ (map : Roadmap) where
   -- the state of a former number
@@ -38,7 +40,7 @@ module _ (map : Roadmap) (k : KeepOut) (segment : Float) where
   leaves kept i = leavesAt (coversOf k) (hitOf segment k) (was map) (legAt (map .legs)) (size map) kept i
 
   -- what holds when the milestone i is reached: n stay so far, and these tables have them
-  pub record Pruning (az el feed : List Float) (legs old : List ℕ) (n i : ℕ) : Type 0 where
+  pub record Pruning (az el feed : List Float) (legs old at : List ℕ) (n i : ℕ) : Type 0 where
     pub within : i ≤ size map
     pub few : n ≤ i
     pub az-sized : length az ≡ 256
@@ -46,16 +48,18 @@ module _ (map : Roadmap) (k : KeepOut) (segment : Float) where
     pub feed-sized : length feed ≡ 256
     pub legs-sized : length legs ≡ 1024
     pub old-sized : length old ≡ 256
+    pub at-sized : length at ≡ 256
     -- no leg beyond those that stay
     pub clean : Clean legs n
-    -- the former numbers of those that stay
-    pub below : (j : ℕ) → j < n → getD old j 0 < i
+    -- the former numbers of those that stay, and back; no other has a new number
+    pub table : Numbers old at n i
+    pub placed : (o : ℕ) → o < 256 → getD at o 0 < 256 → (o < i) × (getD at o 0 < n)
     pub numbers : spanOf 0 n (λ (j : ℕ). getD old j 0) ≡ keepOf (stands (coversOf k) (hitOf segment k) (was map)) (spanOf 0 i itself)
     pub is : prunedOf segment k (milestonesOf map) ≡ leaves (viewOf az el feed legs n) i
 
   pub prune-starts :
       (az el feed : List Float) (old : List ℕ) → length az ≡ 256 → length el ≡ 256 → length feed ≡ 256 → length old ≡ 256 →
-      Pruning az el feed (replicate 1024 0) old 0 0
+      Pruning az el feed (replicate 1024 0) old (replicate 256 256) 0 0
   unfolding prunedOf milestonesOf viewOf spanOf keepOf
   prune-starts az el feed old p q r u =
       let e : size map - 0 ≡ size map = omega arith in
@@ -67,25 +71,32 @@ module _ (map : Roadmap) (k : KeepOut) (segment : Float) where
         feed-sized = r;
         legs-sized = refl;
         old-sized = u;
+        at-sized = refl;
         clean = clean 1024 0;
-        below = λ j h. omega arith;
+        table = record { below = λ j h. omega arith; back = λ j h. absurd (none j h); there = λ o h l. absurd (none o h) };
+        placed = λ o h l. absurd (over o h l);
         numbers = refl;
         is = rw e;
       }
+    where
+      over : (o : ℕ) → o < 256 → getD (replicate 256 256) o 0 < 256 → ⊥
+      over o h l = omega (arith, filled 256 256 o h)
 
-module _ {map : Roadmap} {k : KeepOut} {segment : Float} {az el feed : List Float} {legs old : List ℕ} {n i : ℕ}
-    (h : Pruning map k segment az el feed legs old n i) where
+module _ {map : Roadmap} {k : KeepOut} {segment : Float} {az el feed : List Float} {legs old at : List ℕ} {n i : ℕ}
+    (h : Pruning map k segment az el feed legs old at n i) where
   -- at the end these tables are the roadmap
   pub prune-ends : size map ≤ i → viewOf az el feed legs n ≡ prunedOf segment k (milestonesOf map)
   prune-ends e = sym (h .is ∙ turn-end (coversOf k) (hitOf segment k) (was map) (legAt (map .legs)) (size map) _ i e)
 
-  module _ (more : i < size map) {az′ el′ feed′ : List Float} {legs′ old′ : List ℕ} {n′ : ℕ} where
+  module _ (more : i < size map) {az′ el′ feed′ : List Float} {legs′ old′ at′ : List ℕ} {n′ : ℕ} where
     -- a milestone that is covered goes
     pub prune-gone :
-        coversOf k (was map i) ≡ true → az′ ≡ az → el′ ≡ el → feed′ ≡ feed → legs′ ≡ legs → old′ ≡ old → n′ ≡ n →
-        Pruning map k segment az′ el′ feed′ legs′ old′ n′ (i + 1)
-    prune-gone e p q r u v w =
-        rw (p, q, r, u, v, w)
+        coversOf k (was map i) ≡ true → az′ ≡ az → el′ ≡ el → feed′ ≡ feed → legs′ ≡ legs → old′ ≡ old → at′ ≡ at → n′ ≡ n →
+        Pruning map k segment az′ el′ feed′ legs′ old′ at′ n′ (i + 1)
+    prune-gone e p q r u v x w =
+        let inside : i < 256 = omega arith in
+        let few : n ≤ 256 = omega (arith, h .few) in
+        rw (p, q, r, u, v, x, w)
         record {
           within = omega arith;
           few = omega (arith, h .few);
@@ -94,8 +105,10 @@ module _ {map : Roadmap} {k : KeepOut} {segment : Float} {az el feed : List Floa
           feed-sized = h .feed-sized;
           legs-sized = h .legs-sized;
           old-sized = h .old-sized;
+          at-sized = h .at-sized;
           clean = h .clean;
-          below = λ j b. omega (arith, h .below j b);
+          table = numbers-gone _ _ _ _ (h .table) inside few (h .placed);
+          placed = λ o l m. let z = h .placed o l m in (omega (arith, z .0), z .1);
           numbers = h .numbers ∙ sym (kept-gone (coversOf k) (hitOf segment k) (was map) i e);
           is = h .is ∙ turn-gone (coversOf k) (hitOf segment k) (was map) (legAt (map .legs)) (size map) _ i more e;
         }
@@ -103,14 +116,16 @@ module _ {map : Roadmap} {k : KeepOut} {segment : Float} {az el feed : List Floa
     -- another stays, with the legs that it keeps
     pub prune-kept :
         coversOf k (was map i) ≡ false → Joins legs n n (keeps map k segment old i) legs′ →
-        az′ ≡ set az n (was map i .az) → el′ ≡ set el n (was map i .el) → feed′ ≡ set feed n (was map i .feed) → old′ ≡ set old n i → n′ ≡ n + 1 →
-        Pruning map k segment az′ el′ feed′ legs′ old′ n′ (i + 1)
-    prune-kept e joins p q r v w =
+        az′ ≡ set az n (was map i .az) → el′ ≡ set el n (was map i .el) → feed′ ≡ set feed n (was map i .feed) → old′ ≡ set old n i → at′ ≡ set at i n → n′ ≡ n + 1 →
+        Pruning map k segment az′ el′ feed′ legs′ old′ at′ n′ (i + 1)
+    prune-kept e joins p q r v x w =
         let room : n < 256 = omega (arith, h .few) in
         let roomy : n < length old = omega (arith, h .old-sized) in
+        let inside : i < 256 = omega arith in
+        let long : i < length at = omega (arith, h .at-sized) in
         let grows = view-add az el feed legs n (keeps map k segment old i) legs′ (was map i) (h .az-sized) (h .el-sized) (h .feed-sized) room (h .clean) joins in
         let flags = left-kept (coversOf k) (hitOf segment k) (was map) (was map i) (legAt (map .legs) i) i (size map) n old (omega arith) (h .numbers) in
-        rw (p, q, r, v, w)
+        rw (p, q, r, v, x, w)
         record {
           within = omega arith;
           few = omega (arith, h .few);
@@ -119,8 +134,10 @@ module _ {map : Roadmap} {k : KeepOut} {segment : Float} {az el feed : List Floa
           feed-sized = length-set feed n (was map i .feed) ∙ h .feed-sized;
           legs-sized = joins .long ∙ h .legs-sized;
           old-sized = length-set old n i ∙ h .old-sized;
+          at-sized = length-set at i n ∙ h .at-sized;
           clean = clean-add az el feed legs n (keeps map k segment old i) legs′ (was map i) (h .az-sized) (h .el-sized) (h .feed-sized) room (h .clean) joins;
-          below = old-below old n i roomy (h .below);
+          table = numbers-kept old at n i (h .table) room inside roomy long (h .placed);
+          placed = placed-kept old at n i long (h .placed);
           numbers =
               old-more old n i roomy ∙ ap (λ (l : List ℕ). l ++ (i ∷ [])) (h .numbers)
               ∙ sym (kept-more (coversOf k) (hitOf segment k) (was map) i e);

@@ -4,7 +4,6 @@ use mathlib.Core.Bool.{Bool, true, false, not, _&&_, cond}
 use mathlib.Core.List.{List, [], _∷_, _++_, map, append-nil}
 use mathlib.Core.Path.{_≡_, refl, sym, _∙_, ap, ap₂}
 use native.Mathlib.Omega.{arith}
-use native.Mathlib.Decide.{decLt}
 use native.Mathlib.Numerals.{add-one}
 use lib.ListN.{length, getD, set}
 use lib.Seq.{getD-set-same, getD-set-other}
@@ -30,12 +29,6 @@ old-more old c i h =
     rw (add-one c)
     (span-snoc 0 c (λ (j : ℕ). getD (set old c i) j 0)
     ∙ ap₂ (λ (l : List ℕ) (x : ℕ). l ++ (x ∷ [])) (span-same 0 c (λ (j : ℕ). getD (set old c i) j 0) (λ (j : ℕ). getD old j 0) (λ j a b. getD-set-other old c j i 0 (λ e. omega arith))) (let e : 0 + c ≡ c = omega arith in rw e (getD-set-same old c i 0 h)))
-
-pub old-below : (old : List ℕ) (c i : ℕ) → c < length old → ((j : ℕ) → j < c → getD old j 0 < i) → (j : ℕ) → j < c + 1 → getD (set old c i) j 0 < i + 1
-old-below old c i h below j hj = elim (decLt j c) [ yes p ↦ rw (getD-set-other old c j i 0 (λ e. omega arith)) (omega (arith, below j p)) | no p ↦ last (omega arith) ]
-  where
-    last : j ≡ c → getD (set old c i) j 0 < i + 1
-    last e = rw (e, getD-set-same old c i 0 h) (omega arith)
 
 module _ (gone : State → Bool) (hit : State → State → Bool) (st : ℕ → State) where
   abbrev pub stands : ℕ → Bool

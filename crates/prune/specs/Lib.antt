@@ -1,2 +1,3 @@
 pub mod Hit
 pub mod Prune
+pub mod Numbers

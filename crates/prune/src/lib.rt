@@ -12,6 +12,7 @@ ghost use Rattle.legs.specs.Bits.{legAt};
 ghost use Rattle.roadmap.specs.View.{stateIn, milestonesOf, Joins};
 ghost use Rattle.prune.specs.Hit.{hitOf};
 ghost use Rattle.prune.specs.Prune.{prunedOf};
+ghost use Rattle.prune.specs.Numbers.{Numbers};
 
 // Whether k covers a checked point of the motion from from to to.
 fn hits(k: KeepOut, segment: f64, from: State, to: State) -> bool
@@ -35,7 +36,8 @@ fn hits(k: KeepOut, segment: f64, from: State, to: State) -> bool
     false
 }
 
-// Joins the milestone n, which was the i-th, to the earlier ones whose leg stood and is not hit. `old` has their former numbers.
+// Joins the milestone n, which was the i-th, to the earlier ones whose leg stood and is not hit. `old` has the former numbers of those
+// that stay, and `at` the new numbers of the former ones.
 fn keep_legs<'a>(
     k: KeepOut,
     segment: f64,
@@ -46,16 +48,17 @@ fn keep_legs<'a>(
     was: &'a [u64; 1024],
     i: usize,
     old: &'a [usize; 256],
+    at: &'a [usize; 256],
     n: usize,
     legs: &mut [u64; 1024],
 )
-    requires { ⌜ (i < 256) × (n < 256) × (length (now legs) ≡ 1024) × ((j : ℕ) → j < n → getD (now old) j 0 < 256) ⌝ }
+    requires { ⌜ (i < 256) × (n < 256) × (length (now legs) ≡ 1024) × Numbers (now old) (now at) n i ⌝ }
     ensures { λ _. ⌜ Joins (now (legs .entry)) n n (λ (j : ℕ). legAt (now (was .entry)) i (getD (now (old .entry)) j 0) && not (hitOf segment k new (stateIn (now (az .entry)) (now (el .entry)) (now (feed .entry)) (getD (now (old .entry)) j 0)))) (now (legs .exit)) ⌝ }
 {
-    let mut j: usize = 0;
-    'earlier: while j < n {
-        let o = old[j];
-        if legs::leg(was, i, o) {
+    let mut o = legs::next(was, i, 0);
+    'stood: while o < i {
+        let j = at[o];
+        if j < n {
             let earlier = State {
                 az: az[o],
                 el: el[o],
@@ -65,7 +68,7 @@ fn keep_legs<'a>(
                 legs::link(legs, n, j);
             }
         }
-        j += 1;
+        o = legs::next(was, i, o + 1);
     }
 }
 
@@ -85,6 +88,7 @@ pub fn pruned(map: Roadmap, k: KeepOut, segment: f64) -> Roadmap
     let mut feed: [f64; 256] = [0.0; 256];
     let mut legs: [u64; 1024] = [0; 1024];
     let mut old: [usize; 256] = [0; 256];
+    let mut at: [usize; 256] = [Roadmap::MOST; 256];
     let mut count: usize = 0;
     let mut i: usize = 0;
     'milestones: while i < rows {
@@ -104,6 +108,7 @@ pub fn pruned(map: Roadmap, k: KeepOut, segment: f64) -> Roadmap
                 &map.legs,
                 i,
                 &old,
+                &at,
                 count,
                 &mut legs,
             );
@@ -111,6 +116,7 @@ pub fn pruned(map: Roadmap, k: KeepOut, segment: f64) -> Roadmap
             el[count] = s.el;
             feed[count] = s.feed;
             old[count] = i;
+            at[i] = count;
             count += 1;
         }
         i += 1;

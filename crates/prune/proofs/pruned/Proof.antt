@@ -10,11 +10,11 @@ use Rattle.prune.proofs.pruned.Statement.{statement}
 use Rattle.prune.proofs.pruned.Tie as tie
 
 abbrev Inv-milestones : tie.InvT-milestones
-Inv-milestones k segment map held rows az₀ el₀ feed₀ legs₀ old₀ count₀ i₀ az el feed legs old count i =
-    (rows ≡ min (map .count) 256) × Pruning map k segment az el feed legs old count i
+Inv-milestones k segment map held rows az₀ el₀ feed₀ legs₀ old₀ at₀ count₀ i₀ az el feed legs old at count i =
+    (rows ≡ min (map .count) 256) × Pruning map k segment az el feed legs old at count i
 
 abbrev μ-milestones : tie.MeasureT-milestones
-μ-milestones k segment map held rows az₀ el₀ feed₀ legs₀ old₀ count₀ i₀ az el feed legs old count i = rows - i
+μ-milestones k segment map held rows az₀ el₀ feed₀ legs₀ old₀ at₀ count₀ i₀ az el feed legs old at count i = rows - i
 
 -- what is known in a turn
 module _ (c : tie.In-milestones Inv-milestones μ-milestones) where
@@ -35,36 +35,36 @@ milestones-holds c =
     let most : c .if1 .rows ≡ min (c .before .args .t1 .count) 256 = ⊎-elim (λ w. omega arith) (λ w. omega arith) (c .if1 .came) in
     (most, prune-starts _ _ _ _ _ _ _ refl refl refl refl)
 
-mul-t18 : tie.Need-mul-t18 Inv-milestones μ-milestones
-mul-t18 c = omega (arith, inside c)
+mul-t19 : tie.Need-mul-t19 Inv-milestones μ-milestones
+mul-t19 c = omega (arith, inside c)
 
-element-copy-out-t21 : tie.Need-element-copy-out-t21 Inv-milestones μ-milestones
-element-copy-out-t21 c = inside c
+element-copy-out-t22 : tie.Need-element-copy-out-t22 Inv-milestones μ-milestones
+element-copy-out-t22 c = inside c
 
-mul-t22 : tie.Need-mul-t22 Inv-milestones μ-milestones
-mul-t22 c = omega (arith, inside (c .before))
+mul-t23 : tie.Need-mul-t23 Inv-milestones μ-milestones
+mul-t23 c = omega (arith, inside (c .before))
 
-element-copy-out-t25 : tie.Need-element-copy-out-t25 Inv-milestones μ-milestones
-element-copy-out-t25 c = inside (c .before)
+element-copy-out-t26 : tie.Need-element-copy-out-t26 Inv-milestones μ-milestones
+element-copy-out-t26 c = inside (c .before)
 
-mul-t26 : tie.Need-mul-t26 Inv-milestones μ-milestones
-mul-t26 c = omega (arith, inside (c .before .before))
+mul-t27 : tie.Need-mul-t27 Inv-milestones μ-milestones
+mul-t27 c = omega (arith, inside (c .before .before))
 
-element-copy-out-t29 : tie.Need-element-copy-out-t29 Inv-milestones μ-milestones
-element-copy-out-t29 c = inside (c .before .before)
+element-copy-out-t30 : tie.Need-element-copy-out-t30 Inv-milestones μ-milestones
+element-copy-out-t30 c = inside (c .before .before)
 
 covers-requires : tie.Need-covers-requires Inv-milestones μ-milestones
 covers-requires c κs = search needs
 
 keep-legs-requires : tie.Need-keep-legs-requires Inv-milestones μ-milestones
 keep-legs-requires c κs =
-    let turn = c .before .before .before .before .before .before .before .before .before .before .before .before in
+    let turn = c .before .before .before .before .before .before .before .before .before .before .before .before .before in
     let h = turn .before .milestones .inv .1 in
-    (inside turn, room turn, h .legs-sized, λ j p. omega (arith, inside turn, h .below j p))
+    (inside turn, room turn, h .legs-sized, h .table)
 
 -- the turn in which the legs were kept
 abbrev after : tie.After-keep-legs Inv-milestones μ-milestones → tie.In-milestones Inv-milestones μ-milestones
-after c = c .before .before .before .before .before .before .before .before .before .before .before .before .before
+after c = c .before .before .before .before .before .before .before .before .before .before .before .before .before .before
 
 mul-az : tie.Need-mul-az Inv-milestones μ-milestones
 mul-az c = omega (arith, inside (after c), room (after c))
@@ -90,6 +90,12 @@ mul-old c = omega (arith, inside (after c), room (after c))
 array-write-old : tie.Need-array-write-old Inv-milestones μ-milestones
 array-write-old c = omega (arith, inside (after c), room (after c))
 
+mul-at : tie.Need-mul-at Inv-milestones μ-milestones
+mul-at c = omega (arith, inside (after c), room (after c))
+
+array-write-at : tie.Need-array-write-at Inv-milestones μ-milestones
+array-write-at c = omega (arith, inside (after c), room (after c))
+
 add-count : tie.Need-add-count Inv-milestones μ-milestones
 add-count c = omega (arith, room (after c))
 
@@ -107,8 +113,8 @@ milestones-again c =
     let tested = c .before .covers .ensures in (
       h .0,
       ⊎-elim
-          (λ w. prune-gone (h .1) (more turn) (sym tested ∙ w .0 .taken) (w .1) (w .2) (w .3) (w .4) (w .5) (w .6))
-          (λ w. prune-kept (h .1) (more turn) (sym tested ∙ w .0 .left) (rw (w .12) (w .8 .ensures)) (w .9) (w .10) (w .11) (w .13) (w .14)) (c .if2 .came),
+          (λ w. prune-gone (h .1) (more turn) (sym tested ∙ w .0 .taken) (w .1) (w .2) (w .3) (w .4) (w .5) (w .6) (w .7))
+          (λ w. prune-kept (h .1) (more turn) (sym tested ∙ w .0 .left) (rw (w .13) (w .9 .ensures)) (w .10) (w .11) (w .12) (w .14) (w .15) (w .16)) (c .if2 .came),
     )
 
 returns : tie.Need-returns Inv-milestones μ-milestones
@@ -125,12 +131,12 @@ pruned-spec =
     Inv-milestones
     μ-milestones
     milestones-holds
-    mul-t18
-    element-copy-out-t21
-    mul-t22
-    element-copy-out-t25
-    mul-t26
-    element-copy-out-t29
+    mul-t19
+    element-copy-out-t22
+    mul-t23
+    element-copy-out-t26
+    mul-t27
+    element-copy-out-t30
     covers-requires
     keep-legs-requires
     mul-az
@@ -141,6 +147,8 @@ pruned-spec =
     array-write-feed
     mul-old
     array-write-old
+    mul-at
+    array-write-at
     add-count
     add-i
     milestones-less
