@@ -1,8 +1,10 @@
 //! Times the planners' setup and solve, or construction, and a roadmap's query in the original Rust and in the proved code: one run, the same inputs, thread time, the best of
-//! many rounds. Compiled without `--cfg proved` it times the Rust alone.
+//! many rounds. Then a keep-out that is added to a roadmap, which the Rust has not, in the proved code alone. Compiled without `--cfg proved` it times the Rust alone.
 
 #[path = "timing/original.rs"]
 mod original;
+#[path = "timing/parked.rs"]
+mod parked;
 #[cfg(proved)]
 #[path = "timing/proved.rs"]
 mod proved;
@@ -33,6 +35,7 @@ fn main() {
         }
     }
     queries::report("j: PRM, a query of the roadmap of (i)", ROUNDS);
+    parked::report("k: PRM, a keep-out added to the roadmap of (i)", ROUNDS);
 }
 
 fn describe(workload: &Workload) {

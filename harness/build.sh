@@ -15,13 +15,14 @@ need_rust() {
     done
 }
 
-# compile NAME SOURCE WORDS..: one crate at the optimisation of a release. Functions begin at multiples of 64 bytes, so that a time does not
-# hang on where the linker happens to put them.
+# compile NAME SOURCE WORDS..: one crate at the optimisation of a release. Functions begin at multiples of 64 bytes, and places that are
+# only jumped to at those of 32, so that a time does not hang on where code happens to lie.
 compile() {
     local name=$1 source=$2
     shift 2
     PLANNERS=$(cd "$oxmpl" && pwd) rustc --edition 2024 -C opt-level=3 -C codegen-units=1 -D warnings \
-        -C llvm-args=-align-all-functions=6 --out-dir "$out" -L "$out" --crate-name "$name" "$source" "$@"
+        -C llvm-args=-align-all-functions=6 -C llvm-args=-align-all-nofallthru-blocks=5 \
+        --out-dir "$out" -L "$out" --crate-name "$name" "$source" "$@"
 }
 
 inputs_now() {

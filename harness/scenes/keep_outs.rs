@@ -1,8 +1,8 @@
 //! Keep-outs whose faces, rims and floors lie exactly on a state, or on a point that a motion check tests, or one rounding
 //! beside it. So a check in the wrong direction, or of another point, is told apart.
 
-use crate::numbers::{self, nudged};
-use crate::random::Random;
+use super::numbers::{self, nudged};
+use super::random::Random;
 use oxmpl::mount::{KeepOut, State, between, distance};
 
 pub fn touching(random: &mut Random, pool: &[State], segment: f64) -> KeepOut {

@@ -1,9 +1,9 @@
 //! Leaf calls on a mount alone, at the borders of document 01's rules.
 
-use crate::numbers::{self, nudged};
-use crate::random::Random;
-use crate::scene::Scene;
-use crate::setups;
+use super::numbers::{self, nudged};
+use super::random::Random;
+use super::scene::Scene;
+use super::setups;
 use oxmpl::mount::{KeepOut, State, distance};
 
 /// The most steps that a motion may have.

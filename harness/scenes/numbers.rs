@@ -1,6 +1,6 @@
 //! Numbers as a script writes them, numbers one step apart, and numbers that document 01 refuses.
 
-use crate::random::Random;
+use super::random::Random;
 use oxmpl::mount::State;
 
 /// A number in one of the forms that a script allows: decimal where at most 15 digits say it, or its bits.

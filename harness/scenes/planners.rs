@@ -1,10 +1,10 @@
 //! Calls on one planner: setups, solves or constructions and queries, refusals among them, and keep-outs where they are asked.
 
-use crate::keep_outs;
-use crate::numbers;
-use crate::random::Random;
-use crate::scene::Scene;
-use crate::setups;
+use super::keep_outs;
+use super::numbers;
+use super::random::Random;
+use super::scene::Scene;
+use super::setups;
 use oxmpl::mount::State;
 
 const MOST_NODES: usize = 512;

@@ -1,9 +1,9 @@
 //! A scene for one setup: a pool of states that the calls use again and again, and limits, lengths, start and goal that meet
 //! them exactly. Few distinct numbers make ties, equal numbers and repeated states frequent.
 
-use crate::keep_outs;
-use crate::numbers::nudged;
-use crate::random::Random;
+use super::keep_outs;
+use super::numbers::nudged;
+use super::random::Random;
 use oxmpl::base::validity::StateValidityChecker;
 use oxmpl::mount::{KeepOut, Mount, State, distance};
 

@@ -1,9 +1,9 @@
 //! Setup lines: accepted ones of a scene, and ones that document 01 refuses.
 
-use crate::keep_outs;
-use crate::numbers;
-use crate::random::Random;
-use crate::scene::Scene;
+use super::keep_outs;
+use super::numbers;
+use super::random::Random;
+use super::scene::Scene;
 
 /// The numbers of a setup in their order; each planner takes its own share of the lengths.
 fn setup_numbers(planner: &str, scene: &Scene) -> Vec<f64> {

@@ -139,6 +139,11 @@ pub fn joined(planner: &Roadmap) -> usize {
     planner.table().iter().map(|(_, neighbours)| neighbours.len()).sum()
 }
 
+/// How many milestones and legs it has; a leg makes two milestones each other's neighbours.
+pub fn size(planner: &Roadmap) -> (usize, usize) {
+    (planner.table().len(), joined(planner) / 2)
+}
+
 /// One query: the number of states of its route.
 pub fn query(planner: &mut Roadmap) -> u64 {
     let Path(route) = planner.solve(Duration::from_secs(1)).expect("a route");

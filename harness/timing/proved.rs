@@ -18,13 +18,13 @@ type Kinds = *const [u8; 32];
 type Numbers = *const [f64; 192];
 
 // Setup and one solve. An array is handed over as its address, a slice as its address and its length: the setup; the keep-outs' kinds,
-// numbers and count; the samples; the route buffer. RRT* has its search radius after the setup, and PRM how many queries follow its construction
-// before the route buffer.
+// numbers and count; the samples; the route buffer. RRT* has its search radius after the setup. PRM has how many keep-outs more are added after its
+// construction behind their count, and how many queries follow before the route buffer.
 unsafe extern "C" {
     fn rindmosaic_rrt(_: Setup, _: Kinds, _: Numbers, _: usize, _: *const f64, _: usize, _: *mut f64, _: usize) -> Report;
     fn rindmosaic_connect(_: Setup, _: Kinds, _: Numbers, _: usize, _: *const f64, _: usize, _: *mut f64, _: usize) -> Report;
     fn rindmosaic_star(_: Setup, _: f64, _: Kinds, _: Numbers, _: usize, _: *const f64, _: usize, _: *mut f64, _: usize) -> Report;
-    fn rindmosaic_prm(_: Setup, _: Kinds, _: Numbers, _: usize, _: *const f64, _: usize, _: usize, _: *mut f64, _: usize) -> Report;
+    fn rindmosaic_prm(_: Setup, _: Kinds, _: Numbers, _: usize, _: usize, _: *const f64, _: usize, _: u8, _: *mut f64, _: usize) -> Report;
 }
 
 /// The longest route buffer that a solve needs.
@@ -42,6 +42,11 @@ pub struct Prepared {
 }
 
 pub fn prepare(workload: &Workload) -> Prepared {
+    prepare_with(workload, &[])
+}
+
+/// The same with keep-outs that can be added later, in the rows after the setup's.
+pub fn prepare_with(workload: &Workload, added: &[KeepOut]) -> Prepared {
     let (low, high) = (workload.mount.low.axes(), workload.mount.high.axes());
     let mut setup: Vec<f64> = (0..3).flat_map(|axis| [low[axis], high[axis]]).collect();
     setup.extend([workload.segment, workload.max_distance]);
@@ -50,7 +55,7 @@ pub fn prepare(workload: &Workload) -> Prepared {
     setup.push(workload.goal.radius);
     let mut kinds = [0; 32];
     let mut numbers = [0.0; 192];
-    for (row, keep_out) in workload.mount.keep_outs.iter().enumerate() {
+    for (row, keep_out) in workload.mount.keep_outs.iter().chain(added).enumerate() {
         kinds[row] = kind(keep_out);
         for (place, number) in keep_out_numbers(keep_out).into_iter().enumerate() {
             numbers[6 * row + place] = number;
@@ -85,11 +90,11 @@ fn keep_out_numbers(keep_out: &KeepOut) -> Vec<f64> {
 
 /// Setup and one solve, or one construction.
 pub fn run(prepared: &mut Prepared) -> Outcome {
-    run_with(prepared, 0)
+    run_with(prepared, 0, 0)
 }
 
-/// The same, and queries of a roadmap that is built.
-pub fn run_with(prepared: &mut Prepared, queries: usize) -> Outcome {
+/// The same, and for a roadmap that is built the first of the keep-outs that can be added, and queries of what they leave.
+pub fn run_with(prepared: &mut Prepared, added: usize, queries: u8) -> Outcome {
     let Prepared { planner, setup, kinds, numbers, keep_outs, samples, route } = prepared;
     let (list, length) = (samples.as_ptr(), samples.len());
     let (memory, room) = (route.as_mut_ptr(), route.len());
@@ -100,7 +105,7 @@ pub fn run_with(prepared: &mut Prepared, queries: usize) -> Outcome {
             Planner::Star { search_radius } => {
                 rindmosaic_star(setup, search_radius, kinds, numbers, *keep_outs, list, length, memory, room)
             }
-            Planner::Prm => rindmosaic_prm(setup, kinds, numbers, *keep_outs, list, length, queries, memory, room),
+            Planner::Prm => rindmosaic_prm(setup, kinds, numbers, *keep_outs, added, list, length, queries, memory, room),
         }
     };
     Outcome { answer: report.answer as u64, count: report.count as u64, taken: report.taken as u64 }

@@ -3,7 +3,7 @@
 use crate::thread_time::timed;
 use crate::{original, workloads};
 
-const QUERIES: u64 = 100;
+const QUERIES: u8 = 100;
 
 pub fn report(name: &'static str, rounds: usize) {
     let workload = workloads::roadmap(name);
@@ -14,7 +14,7 @@ pub fn report(name: &'static str, rounds: usize) {
     println!("   {neighbours:.1} neighbours a milestone, a route of {states} states");
     let mut planner = original::charted(&workload);
     let rust = (0..rounds).map(|_| timed(|| (0..QUERIES).for_each(|_| assert_eq!(original::query(&mut planner), states))).1).min();
-    let rust = rust.expect("at least one round") as f64 / QUERIES as f64;
+    let rust = rust.expect("at least one round") as f64 / f64::from(QUERIES);
     print!("   Rust {rust:.0} ns a query");
     match proved_query(&workload, states, rounds) {
         Some(time) => println!(", proved {time:.0}, ratio {:.2}", time / rust),
@@ -28,12 +28,12 @@ fn proved_query(workload: &workloads::Workload, states: u64, rounds: usize) -> O
     let mut prepared = crate::proved::prepare(workload);
     let mut least = (u64::MAX, u64::MAX);
     for _ in 0..rounds {
-        let (asked, with) = timed(|| crate::proved::run_with(&mut prepared, QUERIES as usize));
-        let (_, without) = timed(|| crate::proved::run_with(&mut prepared, 0));
+        let (asked, with) = timed(|| crate::proved::run_with(&mut prepared, 0, QUERIES));
+        let (_, without) = timed(|| crate::proved::run_with(&mut prepared, 0, 0));
         assert_eq!((asked.answer, asked.count), (0, states), "the proved code's answer and its route's states");
         least = (least.0.min(with), least.1.min(without));
     }
-    Some((least.0 - least.1) as f64 / QUERIES as f64)
+    Some((least.0 - least.1) as f64 / f64::from(QUERIES))
 }
 
 #[cfg(not(proved))]

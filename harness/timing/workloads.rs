@@ -31,6 +31,16 @@ impl Planner {
     }
 }
 
+impl Workload {
+    /// The same under more keep-outs.
+    pub fn with_keep_outs(&self, added: &[KeepOut]) -> Workload {
+        let mut mount = self.mount.clone();
+        mount.keep_outs.extend_from_slice(added);
+        let (samples, goal) = (self.samples.clone(), self.goal.clone());
+        Workload { mount, samples, goal, ..*self }
+    }
+}
+
 pub fn all() -> Vec<Workload> {
     vec![
         filled(dish("a: 511 nodes, no keep-outs", 3.75, Vec::new())),
@@ -138,6 +148,34 @@ fn eight() -> Vec<KeepOut> {
         disc(40.0, 60.0, 5.0),
         KeepOut::Floor { elevation: 2.0 },
     ]
+}
+
+/// How many keep-outs there is still room for beside the eight.
+const MORE: usize = 24;
+
+/// So small that they cover no milestone of the roadmap and stop few of its legs, or floors under the highest of the eight's: the roadmap stays as large.
+pub fn passing_by() -> Vec<KeepOut> {
+    strewn(3, 2.0, 1.0, 2.0)
+}
+
+/// Large enough that most of them take milestones, and floors above the highest of the eight's.
+pub fn in_the_way() -> Vec<KeepOut> {
+    strewn(4, 30.0, 6.0, 5.0)
+}
+
+/// Boxes of one size, discs and floors in turn, strewn over a dish's limits; each floor is a little higher than the one before.
+fn strewn(seed: u64, side: f64, radius: f64, floor: f64) -> Vec<KeepOut> {
+    let mut random = Random::new(seed);
+    (0..MORE)
+        .map(|turn| {
+            let corner = [random.number(-260.0, 230.0), random.number(10.0, 60.0), random.number(-85.0, 55.0)];
+            match turn % 3 {
+                0 => solid(corner, corner.map(|number| number + side)),
+                1 => disc(corner[0], corner[1], radius),
+                _ => KeepOut::Floor { elevation: floor + turn as f64 / 10.0 },
+            }
+        })
+        .collect()
 }
 
 /// Walls about the start, thicker than a motion is long: the tree fills the pocket, and most samples lie outside.

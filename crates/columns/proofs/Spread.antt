@@ -1,6 +1,6 @@
 -- Rows that hold a table's keep-outs one by one hold its list.
 use Prim.Native.Nat.{ℕ, zero, suc, _+_, _*_, _≤_, _<_, min}
-use mathlib.Core.List.{List, [], _∷_, map}
+use mathlib.Core.List.{List, _∷_, map}
 use mathlib.Core.Path.{_≡_, refl, sym, _∙_, ap}
 use mathlib.Core.Logic.{⊎-elim}
 use native.Mathlib.Nat.{eq-or-lt-of-le}
@@ -11,7 +11,6 @@ use lib.Seq.{drop-cons}
 use lib.Ieee.{Float}
 use Rattle.laws.specs.Rest.{within, take-most}
 use Rattle.keep_out.specs.Table.{heldOf, keepOutsOf}
-use Rattle.keep_out.specs.declared.KeepOut.{KeepOut}
 use Rattle.keep_out.specs.declared.KeepOuts.{KeepOuts}
 use Rattle.keep_out.specs.declared.Slot.{Slot}
 use Rattle.columns.specs.Rows.{rowOf, keepOutAt}

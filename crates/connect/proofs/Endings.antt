@@ -1,7 +1,7 @@
 -- The route at the end of a run, from what its parts wrote.
-use Prim.Native.Nat.{ℕ, _+_, _-_, _*_, _≤_, _<_}
+use Prim.Native.Nat.{ℕ, _+_, _-_, _*_, _≤_}
 use mathlib.Core.List.{List, [], _++_}
-use mathlib.Core.Path.{_≡_, refl, sym, _∙_, ap, ap₂}
+use mathlib.Core.Path.{_≡_, sym, _∙_, ap, ap₂}
 use native.Mathlib.Omega.{arith}
 use lib.ListN.{length, take, drop, length-append}
 use lib.Ieee.{Float}
@@ -12,7 +12,6 @@ use Rattle.route.specs.Path.{pathOf, upwardsOf}
 use Rattle.route.specs.Written.{flatOf, writtenOf, Wrote, Appended}
 use Rattle.route.proofs.Stores.{nothing-written}
 use Rattle.route.proofs.Upwards.{written-on}
-use Rattle.plan.specs.Plan.{Plan}
 use Rattle.connect.specs.declared.turn.Ends.{Ends}
 use Rattle.connect.specs.declared.turn.Ends.the-variants.{GoesOn, Full, Goal, Joined}
 use Rattle.connect.specs.Turn.{Columns}

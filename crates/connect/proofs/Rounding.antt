@@ -1,11 +1,11 @@
 -- One sample on both trees, from what its parts gave.
-use Prim.Native.Nat.{ℕ, _≤_, _<_, min}
-use mathlib.Core.Bool.{Bool, true, false}
+use Prim.Native.Nat.{ℕ, _≤_, _<_}
+use mathlib.Core.Bool.{true, false}
 use mathlib.Core.List.{List, []}
-use mathlib.Core.Path.{_≡_, refl, sym, _∙_, ap}
+use mathlib.Core.Path.{_≡_, refl, _∙_, ap}
 use native.Mathlib.Omega.{arith}
 use borrow.Author.Tests.{eq-eqb, ne-eqb, le-leb, lt-leb}
-use lib.ListN.{length, set, length-set}
+use lib.ListN.{set, length-set}
 use lib.Ieee.{Float}
 use Rattle.state.specs.declared.State.{State}
 use Rattle.tree.specs.Table.{Nodes, nodesIn, nodesOf, grownOf, rootOf, statesOf, rowsOf}
@@ -14,9 +14,8 @@ use Rattle.extend.specs.Extend.{Sized}
 use Rattle.plan.specs.Plan.{Plan}
 use Rattle.connect.specs.declared.turn.Ends.the-variants.{GoesOn}
 use Rattle.connect.specs.declared.turn.Turned.{Turned}
-use Rattle.connect.specs.declared.round.Rounded.{Rounded}
 use Rattle.connect.specs.Turn.{After, turnOf, Columns, columnsAt, Holds, Turns}
-use Rattle.connect.specs.Round.{Trees, Round, sizeOf, roundOf, treesAt, Rounds}
+use Rattle.connect.specs.Round.{Trees, sizeOf, roundOf, treesAt, Rounds}
 
 -- a root stored in the first place
 pub planted :

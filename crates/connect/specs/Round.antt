@@ -2,7 +2,6 @@
 -- tree when its size is at most the goal tree's, else the goal tree.
 use Prim.Native.Nat.{ℕ}
 use mathlib.Core.Bool.{true, false, cond}
-use mathlib.Core.List.{List}
 use mathlib.Core.Path.{_≡_}
 use lib.Dec.{eqb, leb}
 use lib.ListN.{length}
@@ -12,7 +11,7 @@ use Rattle.plan.specs.Plan.{Plan}
 use Rattle.connect.specs.declared.turn.Ends.{Ends}
 use Rattle.connect.specs.declared.turn.Ends.the-variants.{GoesOn}
 use Rattle.connect.specs.declared.round.Rounded.{Rounded}
-use Rattle.connect.specs.Turn.{After, turnOf, Columns, Holds}
+use Rattle.connect.specs.Turn.{turnOf, Columns, Holds}
 
 pub record Trees : Type 0 where
   pub start : Nodes

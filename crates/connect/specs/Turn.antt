@@ -5,15 +5,13 @@ use Prim.Native.Nat.{ℕ, _≤_, _<_}
 use mathlib.Core.Bool.{Bool, _&&_, cond}
 use mathlib.Core.List.{List}
 use mathlib.Core.Path.{_≡_}
-use lib.Dec.{eqb, leb}
-use lib.ListN.{length}
 use lib.Ieee.{Float}
 use Rattle.state.specs.Satisfied.{satisfiedOf}
 use Rattle.state.specs.declared.State.{State}
 use Rattle.state.specs.declared.Limits.{Limits}
 use Rattle.state.specs.declared.Goal.{Goal}
 use Rattle.keep_out.specs.declared.KeepOut.{KeepOut}
-use Rattle.tree.specs.Table.{Nodes, nodesIn, rootOf}
+use Rattle.tree.specs.Table.{Nodes, nodesIn}
 use Rattle.extend.specs.Extend.{Grown, extendOf, Sized}
 use Rattle.extend.specs.declared.Verdict.{Verdict}
 use Rattle.extend.specs.declared.Verdict.the-variants as verdict

@@ -10,15 +10,15 @@ use Rattle.keep_out.specs.declared.KeepOuts.{KeepOuts}
 use Rattle.plan.specs.Plan.{Planner, unset}
 use Rattle.plan.specs.Setup.{Told}
 use Rattle.plan.specs.Solve.{Outcome}
-use Rattle.host.specs.Table.{Listed, knownOf}
+use Rattle.host.specs.Table.{Listed}
 use Rattle.host.specs.Call.{callWith, Reports, Called}
 use Rattle.host.specs.declared.Report.{Report}
 
--- `tell` is the planner's setup, and `known` what the test of the kinds gave
+-- `tell` is the planner's setup, `known` what the test of the kinds gave, and `all` what it should give
 module _ {P A : Type 0} (solve : Planner P A → List Float → List Float → Outcome P A) (tell : Planner P A → KeepOuts → Told P A) (samples old : List Float)
-    (kinds : List ℕ) (numbers : List Float) (count : ℕ) (table : KeepOuts) (listed : Listed kinds numbers count table) (known : Bool) (is : known ≡ knownOf kinds count) where
+    (kinds : List ℕ) (numbers : List Float) (count : ℕ) (table : KeepOuts) (listed : Listed kinds numbers count table) {all : Bool} (known : Bool) (is : known ≡ all) where
   abbrev call : KeepOuts → Outcome P A
-  call t = callWith solve (knownOf kinds count) (tell unset t) samples old
+  call t = callWith solve all (tell unset t) samples old
 
   abbrev Calls : Report → List Float → Type 0
   Calls r new = Called call kinds numbers count r new

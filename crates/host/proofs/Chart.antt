@@ -1,4 +1,4 @@
--- A construction and its queries, from what each of them gave.
+-- What was built and its queries, from what each of them gave.
 use Prim.Native.Nat.{ℕ, suc, _+_}
 use mathlib.Core.List.{List}
 use mathlib.Core.Path.{_≡_, refl, _∙_, ap}
@@ -7,7 +7,7 @@ use borrow.Author.Tests.{eq-eqb, ne-eqb}
 use lib.Ieee.{Float}
 use Rattle.answer.specs.Number.{numberOf}
 use Rattle.prm.specs.Planner as prm
-use Rattle.prm.specs.Construct.{Construction, constructOf}
+use Rattle.prm.specs.Construct.{Construction}
 use Rattle.prm.specs.Query.{Reply, queryOf}
 use Rattle.host.specs.Call.{Reports}
 use Rattle.host.specs.Chart.{queriesOf, builtReply, chartOf}
@@ -21,15 +21,15 @@ query-more p i first before after h is =
     let e : suc i ≡ i + 1 = omega arith in
     is ∙ ap (λ (r : Reply). queryOf p (r .route)) h ∙ ap (λ (n : ℕ). queriesOf p n first) e
 
-module _ (planner : prm.View) (samples old : List Float) (queries : ℕ) (built : Construction) (is : built ≡ constructOf planner samples) (n : ℕ)
-    (is-n : n ≡ numberOf (built .answer)) where
+module _ (build : prm.View → List Float → Construction) (planner : prm.View) (samples old : List Float) (queries : ℕ) (built : Construction)
+    (is : built ≡ build planner samples) (n : ℕ) (is-n : n ≡ numberOf (built .answer)) where
   pub chart-done :
       n ≡ 0 → (last : Reply) → last ≡ queriesOf (built .planner) queries (builtReply built old) → (a : ℕ) → a ≡ numberOf (last .answer) →
-      Reports (chartOf queries planner samples old) (record { answer = a; count = last .count; taken = built .taken }) (last .route)
+      Reports (chartOf build queries planner samples old) (record { answer = a; count = last .count; taken = built .taken }) (last .route)
   unfolding chartOf
   chart-done z last is-last a is-a =
       rw (← is, ← is-n, eq-eqb n 0 z, ← is-last) (record { answer = is-a; count = refl; taken = refl; memory = refl })
 
-  pub chart-refused : (n ≡ 0 → ⊥) → Reports (chartOf queries planner samples old) (record { answer = n; count = 0; taken = built .taken }) old
+  pub chart-refused : (n ≡ 0 → ⊥) → Reports (chartOf build queries planner samples old) (record { answer = n; count = 0; taken = built .taken }) old
   unfolding chartOf
   chart-refused h = rw (← is, ← is-n, ne-eqb n 0 h) (record { answer = is-n; count = refl; taken = refl; memory = refl })

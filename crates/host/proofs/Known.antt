@@ -1,8 +1,8 @@
 -- The walk over the kinds.
 use Prim.Native.Nat.{ℕ, suc, _+_, _-_, _≤_, _<_, min}
-use mathlib.Core.Bool.{Bool, true, false}
+use mathlib.Core.Bool.{true, false}
 use mathlib.Core.List.{List}
-use mathlib.Core.Path.{_≡_, refl, sym, _∙_, ap}
+use mathlib.Core.Path.{_≡_, sym, _∙_, ap}
 use native.Mathlib.Omega.{arith}
 use borrow.Author.Tests.{le-leb, lt-leb}
 use lib.ListN.{getD}
@@ -29,3 +29,9 @@ module _ (kinds : List ℕ) (count rows : ℕ) (is : rows ≡ min count 32) wher
     pub known-all : rows ≤ j → true ≡ knownOf kinds count
     unfolding knownFrom
     known-all h = let e : rows - j ≡ 0 = omega arith in sym (left ∙ ap (λ (k : ℕ). knownFrom kinds k j) e)
+
+-- two counts, each cut before they are added up
+pub known-with :
+    (kinds : List ℕ) (count added a b : ℕ) → a ≡ min count 32 → b ≡ min added 32 → knownOf kinds (a + b) ≡ knownOf kinds (count + added)
+unfolding knownOf
+known-with kinds count added a b is-a is-b = let e : min (a + b) 32 ≡ min (count + added) 32 = omega arith in rw e

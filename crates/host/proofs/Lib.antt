@@ -2,4 +2,5 @@
 pub mod Listing
 pub mod Known
 pub mod Calls
+pub mod Park
 pub mod Chart

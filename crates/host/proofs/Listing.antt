@@ -5,12 +5,11 @@ use mathlib.Core.Logic.{⊎-elim}
 use mathlib.Core.Path.{_≡_, refl, sym, _∙_, ap}
 use native.Mathlib.Nat.{eq-or-lt-of-le}
 use native.Mathlib.Omega.{arith}
-use lib.ListN.{length, getD, set, length-replicate}
+use lib.ListN.{length, getD, set}
 use lib.Seq.{getD-set-same, getD-set-other}
 use lib.Ieee.{Float}
 use Rattle.keep_out.specs.Table.{heldOf, keepOutsOf, emptyTable}
 use Rattle.keep_out.specs.declared.KeepOut.{KeepOut}
-use Rattle.keep_out.specs.declared.KeepOuts.{KeepOuts}
 use Rattle.keep_out.specs.declared.Slot.{Slot}
 use Rattle.columns.specs.Rows.{keepOutAt}
 use Rattle.columns.specs.Columns.{columnsFrom, columnsOf}

@@ -1,4 +1,5 @@
 pub mod Setup
 pub mod Table
 pub mod Call
+pub mod Park
 pub mod Chart

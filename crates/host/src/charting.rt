@@ -1,8 +1,9 @@
-// PRM for a host and for the benchmark: a setup, a construction and queries in one call on plain numbers. With no query the call builds and reports;
-// with many it asks the same again of one roadmap, so that construction and query can be timed apart.
+// PRM for a host and for the benchmark: a setup, a construction, keep-outs that are added and queries in one call on plain numbers. With none added and no
+// query the call builds and reports; with many it adds to one roadmap, or asks the same of it again, so that each can be timed apart.
 use crate::BAD_INPUT;
 use crate::Report;
 use crate::given;
+use crate::parking;
 use crate::refused;
 use prm::Prm;
 use prm::Queried;
@@ -11,14 +12,16 @@ ghost use mathlib.Core.Path.{_≡_};
 ghost use Rattle.prm.specs.Planner.{plannerOf};
 ghost use Rattle.prm.specs.Query.{queriedOf};
 ghost use Rattle.host.specs.Call.{Called, Reports};
+ghost use Rattle.host.specs.Park.{buildOf};
 ghost use Rattle.host.specs.Chart.{queriesOf, chartOf, prmCall};
 
-// So many queries, each on the route that the one before left. Answers as the last, or as the one that is given.
-fn ask(planner: Prm, queries: usize, first: Queried, route: &mut [f64]) -> Queried
+// So many queries, each on the route that the one before left. Answers as the last, or as the one that is given. They are counted in a byte: no page
+// bounds them, and a call is to end soon on any numbers.
+fn ask(planner: Prm, queries: u8, first: Queried, route: &mut [f64]) -> Queried
     ensures { λ r. ⌜ queriedOf r (now (route .exit)) ≡ queriesOf (plannerOf planner) queries (queriedOf first (now (route .entry))) ⌝ }
 {
     let mut last = first;
-    let mut i: usize = 0;
+    let mut i: u8 = 0;
     'queries: while i < queries {
         last = planner.query(route);
         i += 1;
@@ -26,19 +29,28 @@ fn ask(planner: Prm, queries: usize, first: Queried, route: &mut [f64]) -> Queri
     last
 }
 
-// Builds the roadmap, and asks if that is done.
-fn chart(planner: Prm, samples: &[f64], queries: usize, route: &mut [f64]) -> Report
-    ensures { λ r. ⌜ Reports (chartOf queries (plannerOf planner) (now (samples .entry)) (now (route .entry))) r (now (route .exit)) ⌝ }
+// Builds the roadmap, adds the keep-outs of the rows from `first` on, and asks if all that is done.
+fn chart<'a>(
+    planner: Prm,
+    samples: &'a [f64],
+    kinds: &'a [u8; 32],
+    numbers: &'a [f64; 192],
+    first: usize,
+    added: usize,
+    queries: u8,
+    route: &mut [f64],
+) -> Report
+    ensures { λ r. ⌜ Reports (chartOf (buildOf (now (kinds .entry)) (now (numbers .entry)) first added) queries (plannerOf planner) (now (samples .entry)) (now (route .entry))) r (now (route .exit)) ⌝ }
 {
-    let built = planner.construct_roadmap(samples);
+    let built = parking::build(planner, samples, kinds, numbers, first, added);
     let told = built.answer;
     let refusal = told.number();
     if refusal == 0 {
-        let first = Queried {
+        let unasked = Queried {
             answer: told,
             count: 0,
         };
-        let last = ask(built.planner, queries, first, route);
+        let last = ask(built.planner, queries, unasked, route);
         let answer = last.answer;
         return Report {
             answer: answer.number(),
@@ -53,18 +65,20 @@ fn chart(planner: Prm, samples: &[f64], queries: usize, route: &mut [f64]) -> Re
     }
 }
 
-// The fifteen numbers are those of the setup, in document 01's order: the eighth is connection_radius.
+// The fifteen numbers are those of the setup, in document 01's order: the eighth is connection_radius. The setup has the first `keep_outs` rows of the
+// columns, and the next `added` rows are added to what was built, in order. The queries are at most the 255 that a byte holds.
 #[no_mangle]
 pub extern "C" fn rindmosaic_prm<'a>(
     setup: &'a [f64; 15],
     kinds: &'a [u8; 32],
     numbers: &'a [f64; 192],
     keep_outs: usize,
+    added: usize,
     samples: &'a [f64],
-    queries: usize,
+    queries: u8,
     route: &mut [f64],
 ) -> Report
-    ensures { λ r. ⌜ Called (prmCall (now (setup .entry)) (now (kinds .entry)) «keep_outs» (now (samples .entry)) queries (now (route .entry))) (now (kinds .entry)) (now (numbers .entry)) «keep_outs» r (now (route .exit)) ⌝ }
+    ensures { λ r. ⌜ Called (prmCall (now (setup .entry)) (now (kinds .entry)) (now (numbers .entry)) «keep_outs» added (now (samples .entry)) queries (now (route .entry))) (now (kinds .entry)) (now (numbers .entry)) «keep_outs» r (now (route .exit)) ⌝ }
 {
     let limits = given::limits_in(setup);
     let start = given::start_in(setup);
@@ -72,12 +86,21 @@ pub extern "C" fn rindmosaic_prm<'a>(
     let table = given::table_of(kinds, numbers, keep_outs);
     let segment = Length { value: setup[6] };
     let connection_radius = Length { value: setup[7] };
-    if given::are_known(kinds, keep_outs) {
+    if given::are_known_with(kinds, keep_outs, added) {
         let made = Prm::new().setup(limits, segment, connection_radius, start, goal, table);
         let told = made.answer;
         let refusal = told.number();
         if refusal == 0 {
-            return chart(made.planner, samples, queries, route);
+            return chart(
+                made.planner,
+                samples,
+                kinds,
+                numbers,
+                keep_outs,
+                added,
+                queries,
+                route,
+            );
         }
         return refused(refusal);
     }

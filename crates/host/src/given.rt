@@ -5,7 +5,7 @@ use state::Goal;
 use state::Limits;
 use state::State;
 ghost use mathlib.Core.Path.{_≡_};
-ghost use Prim.Native.Nat.{min};
+ghost use Prim.Native.Nat.{_+_, min};
 ghost use Rattle.host.specs.Setup.{limitsIn, startIn, goalIn};
 ghost use Rattle.host.specs.Table.{Listed, knownOf};
 
@@ -37,6 +37,14 @@ pub fn are_known(kinds: &[u8; 32], count: usize) -> bool
         }
     }
     true
+}
+
+// The same of the first count rows and the next `added`. Each count is cut before they are added up, so that no two of them are too many for a word.
+pub fn are_known_with(kinds: &[u8; 32], count: usize, added: usize) -> bool
+    ensures { λ r. ⌜ r ≡ knownOf (now (kinds .entry)) (count + added) ⌝ }
+{
+    let rows = rows_of(count) + rows_of(added);
+    are_known(kinds, rows)
 }
 
 // The table of the first count rows, in the form of `columns`: a kind and six numbers to a row.

@@ -8,6 +8,7 @@ ghost use Rattle.host.specs.Call.{Called, rrtCall, connectCall, starCall
 
 mod charting;
 mod given;
+mod parking;
 
 pub use charting::rindmosaic_prm;
 

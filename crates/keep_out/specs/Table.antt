@@ -1,7 +1,7 @@
 -- The table of keep-outs: the list that it holds, the empty one, and one keep-out more. Document 01: at most 32.
-use Prim.Native.Nat.{ℕ, _+_}
+use Prim.Native.Nat.{_+_}
 use mathlib.Core.Bool.{true, false, cond}
-use mathlib.Core.List.{List, [], _∷_, map}
+use mathlib.Core.List.{List, map}
 use lib.Dec.{ltb}
 use lib.ListN.{take, set, replicate}
 use lib.Ieee.{binary64, ofBits}

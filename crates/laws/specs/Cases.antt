@@ -1,6 +1,6 @@
 -- Laws by which `search` picks the case of a definition from the tests that led to a place of the code.
 use mathlib.Core.Bool.{Bool, true, false, not, _&&_, _||_, cond}
-use mathlib.Core.Path.{_≡_, refl, sym, _∙_, subst, ap}
+use mathlib.Core.Path.{_≡_, sym, _∙_}
 
 module _ {A : Type 0} where
   pub pick-true : (b : Bool) (x y r : A) → b ≡ true → r ≡ x → r ≡ cond b x y

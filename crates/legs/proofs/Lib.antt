@@ -1,3 +1,4 @@
 pub mod Square
+pub mod Difference
 pub mod Zeros
 pub mod Walk

@@ -26,7 +26,7 @@ power-bit (suc k) zero =
     rw e (sym (ne-eqb 0 (suc k) (λ z. omega arith)))
 power-bit (suc k) (suc j) = rw (pow-succ' 2 k, pow-succ' 2 j, mul-div-mul-left {m = 2} (2 ^ k) (2 ^ j) (omega arith)) (power-bit k j ∙ sym (eqb·suc-suc j k))
 
-odd-or : (x y : ℕ) → bitOr x y % 2 ≡ max (x % 2) (y % 2)
+pub odd-or : (x y : ℕ) → bitOr x y % 2 ≡ max (x % 2) (y % 2)
 odd-or x y = omega (arith, or-step x y)
 
 either : (x y : ℕ) → x < 2 → y < 2 → eqb (max x y) 1 ≡ eqb x 1 || eqb y 1
@@ -76,7 +76,7 @@ pair-low a i b j p q =
       | no e ↦ rw (eq-eqb a i p, ne-eqb b j e, ne-eqb (b % 64) (j % 64) (λ z. e (omega arith)))
     ]
 
-module _ (words : List ℕ) (i j : ℕ) (long : length words ≡ 1024) (hi : i < 256) (hj : j < 256) where
+module _ (words : List ℕ) (i j : ℕ) (inside : 4 * i + j / 64 < length words) (hj : j < 256) where
   -- the place of the word that changes, and the word as it is then
   abbrev place : ℕ
   place = 4 * i + j / 64
@@ -99,8 +99,8 @@ module _ (words : List ℕ) (i j : ℕ) (long : length words ≡ 1024) (hi : i <
       rw (getD-set-other words place (4 * a + b / 64) changed 0 e, pair-not a i b j (λ p q. e (rw (p, q))))
       (sym (or-false (bitOf (getD words (4 * a + b / 64) 0) (b % 64))))
 
-  pub mark-is : (a b : ℕ) → a < 256 → b < 256 → legAt marked a b ≡ legAt words a b || (eqb a i && eqb b j)
-  mark-is a b ha hb = elim (ℕ-discrete (4 * a + b / 64) (4 * i + j / 64)) [ yes e ↦ same a b hb e | no e ↦ other a b e ]
+  pub mark-is : (a b : ℕ) → b < 256 → legAt marked a b ≡ legAt words a b || (eqb a i && eqb b j)
+  mark-is a b hb = elim (ℕ-discrete (4 * a + b / 64) (4 * i + j / 64)) [ yes e ↦ same a b hb e | no e ↦ other a b e ]
 
 -- a cleared square
 zeros : (k i : ℕ) → _≡_ {A = ℕ} (getD (replicate k 0) i 0) 0

@@ -1,15 +1,16 @@
 -- The walk over a row, a word at a time: what the word at the place `at`, shifted to that place, tells of the row.
 use Prim.Native.Nat.{ℕ, _+_, _*_, _-_, _/_, _%_, _^_, _≤_, _<_}
-use mathlib.Core.Bool.{Bool, false}
+use mathlib.Core.Bool.{Bool, true, false, _&&_}
 use mathlib.Core.List.{List}
-use mathlib.Core.Path.{_≡_, sym, _∙_, ap}
+use mathlib.Core.Path.{_≡_, refl, sym, _∙_, ap}
 use native.Mathlib.Omega.{arith}
 use native.Mathlib.Decide.{decLt}
 use lib.Count.{trailingZeros}
-use lib.ListN.{getD}
+use lib.ListN.{getD, replicate}
 use lib.Pow.{shr-lt, shr-le}
-use Rattle.legs.specs.Bits.{bitOf, legAt}
+use Rattle.legs.specs.Bits.{bitOf, legAt, unseenAt, Without}
 use Rattle.legs.specs.Next.{Next}
+use Rattle.legs.proofs.Square.{cleared}
 use Rattle.legs.proofs.Zeros.{tz-low, tz-bit, tz-lt, no-bits, shifted-bit}
 
 -- none is set from `from` on and before at
@@ -26,28 +27,30 @@ none-passed row from j a b = absurd (away a b)
 beyond : (row : ℕ → Bool) (at j : ℕ) → at ≤ j → (b : Bool) → row (at + (j - at)) ≡ b → row j ≡ b
 beyond row at j h b e = let p : at + (j - at) ≡ j = omega arith in rw p at e
 
-module _ (legs : List ℕ) (i at word rest : ℕ) (is : word ≡ getD legs (4 * i + at / 64) 0) (small : word < 2 ^ 64) (shifted : rest ≡ word / 2 ^ (at % 64)) where
+module _ (legs : List ℕ) (i : ℕ) (seen : List ℕ) (at word rest : ℕ) (is : Without (getD legs (4 * i + at / 64) 0) (getD seen (at / 64) 0) word)
+    (shifted : rest ≡ word / 2 ^ (at % 64)) where
   abbrev row : ℕ → Bool
-  row = legAt legs i
+  row = unseenAt legs i seen
 
   abbrev zeros : ℕ
   zeros = trailingZeros 64 rest
 
   row-here : (k : ℕ) → at % 64 + k < 64 → row (at + k) ≡ bitOf rest k
-  unfolding legAt
+  unfolding unseenAt legAt
   row-here k h =
       let p : (at + k) / 64 ≡ at / 64 = omega arith in
       let q : (at + k) % 64 ≡ at % 64 + k = omega arith in
-      rw (p, q, shifted, is) (sym (shifted-bit (getD legs (4 * i + at / 64) 0) (at % 64) k))
+      let z : 4 * 0 + at / 64 ≡ at / 64 = omega arith in
+      rw (p, q, z, shifted) (sym (is .is (at % 64 + k)) ∙ sym (shifted-bit word (at % 64) k))
 
   low : rest < 2 ^ (64 - at % 64)
   low =
       let p : 64 - at % 64 + at % 64 ≡ 64 = omega arith in
-      let q : word < 2 ^ (64 - at % 64 + at % 64) = rw p small in
+      let q : word < 2 ^ (64 - at % 64 + at % 64) = rw p (is .small) in
       rw shifted (shr-lt (64 - at % 64) (at % 64) q)
 
   below : rest < 2 ^ 64
-  below = rw shifted (omega (arith, shr-le word (at % 64)))
+  below = rw shifted (omega (arith, shr-le word (at % 64), is .small))
 
   pub zeros-few : 0 < rest → zeros < 64 - at % 64
   zeros-few some = tz-lt 64 (64 - at % 64) rest some low (omega arith)
@@ -73,3 +76,21 @@ module _ (legs : List ℕ) (i at word rest : ℕ) (is : word ≡ getD legs (4 * 
     no-more e =
         further (64 * (at / 64 + 1))
         (λ j a b. beyond row at j a false (row-here (j - at) (omega arith) ∙ ap (λ (x : ℕ). bitOf x (j - at)) e ∙ no-bits (j - at)))
+
+-- where none was seen
+and-true : (b : Bool) → b && true ≡ b
+and-true true = refl
+and-true false = refl
+
+all-unseen : (legs : List ℕ) (i j : ℕ) → unseenAt legs i (replicate 4 0) j ≡ legAt legs i j
+unfolding unseenAt
+all-unseen legs i j = rw (cleared 4 0 j) (and-true (legAt legs i j))
+
+pub next-of-all : (legs : List ℕ) (i from r : ℕ) → Next (unseenAt legs i (replicate 4 0)) from r → Next (legAt legs i) from r
+next-of-all legs i from r n =
+    record {
+      onward = n .onward;
+      within = n .within;
+      passed = λ j a b. sym (all-unseen legs i j) ∙ n .passed j a b;
+      here = λ h. sym (all-unseen legs i r) ∙ n .here h;
+    }

@@ -27,19 +27,19 @@ pub enum Steps {
     Many,
 }
 
-// The least whole number that is not below q.
+// The least whole number that is not below q. A u32 becomes a float in one instruction, where a usize takes six.
 fn least(q: f64) -> usize
     requires { ⌜ le q mostPoints ≡ true ⌝ }
     ensures { λ r. ⌜ Least q r ⌝ }
 {
-    let mut n: usize = 0;
+    let mut n: u32 = 0;
     let found = 'numbers: loop {
         if q <= n as f64 {
             break 'numbers n;
         }
         n += 1;
     };
-    found
+    found as usize
 }
 
 // The n of the motion check.

@@ -1,8 +1,8 @@
 -- One keep-out more: the table's list, and a planner's answer.
-use Prim.Native.Nat.{ℕ, _+_, _≤_, _<_, min}
-use mathlib.Core.Bool.{Bool, true, false}
-use mathlib.Core.List.{List, [], _∷_, _++_, map, map-append}
-use mathlib.Core.Path.{_≡_, refl, sym, _∙_, ap}
+use Prim.Native.Nat.{_+_, _≤_, _<_, min}
+use mathlib.Core.Bool.{true, false}
+use mathlib.Core.List.{List, [], _∷_, _++_, map-append}
+use mathlib.Core.Path.{_≡_, _∙_, ap}
 use native.Mathlib.Omega.{arith}
 use native.Mathlib.Numerals.{add-one}
 use borrow.Author.Tests.{lt-ltb, le-ltb, ltb-true, ltb-false}

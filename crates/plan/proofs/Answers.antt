@@ -2,7 +2,7 @@
 use Prim.Native.Nat.{ℕ, _≤_, _<_}
 use mathlib.Core.Bool.{Bool, true, false}
 use mathlib.Core.List.{List}
-use mathlib.Core.Path.{_≡_, refl, sym, _∙_, ap}
+use mathlib.Core.Path.{_≡_}
 use borrow.Author.Tests.{lt-ltb, le-ltb}
 use lib.ListN.{length}
 use lib.Ieee.{Float}
@@ -10,7 +10,7 @@ use Rattle.answer.specs.declared.Answer.the-variants.{Done, Uninitialised, BadI
 use Rattle.state.specs.declared.State.{State}
 use Rattle.samples.specs.Samples.{goodSamples, samplesOf}
 use Rattle.plan.specs.Plan.{Planner, unset, set}
-use Rattle.plan.specs.Setup.{Told, setupWith}
+use Rattle.plan.specs.Setup.{setupWith}
 use Rattle.plan.specs.Solve.{Ended, Outcome, refusedOf, endedOf, solveWith}
 
 module _ {P A : Type 0} (planner : Planner P A) (good : Bool) (plan : P) (fresh : A) where

@@ -10,7 +10,7 @@ use Rattle.state.specs.declared.Length.{Length}
 use Rattle.state.specs.declared.Goal.{Goal}
 use Rattle.motion.specs.Valid.{goodMount}
 use Rattle.motion.specs.declared.Mount.{Mount}
-use Rattle.plan.specs.Plan.{Planner, unset, set}
+use Rattle.plan.specs.Plan.{Planner, set}
 
 -- every number of the setup is good; the start is not validated
 unfoldable pub goodSetup : Mount → Length → State → Goal → Bool

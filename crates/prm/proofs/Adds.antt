@@ -1,8 +1,7 @@
 -- The answer of adding a keep-out, from its tests, the longer table and what is left of the roadmap.
 use Prim.Native.Nat.{ℕ}
 use mathlib.Core.Bool.{true, false}
-use mathlib.Core.List.{List}
-use mathlib.Core.Path.{_≡_, refl, sym, _∙_, ap}
+use mathlib.Core.Path.{_≡_, _∙_, ap}
 use borrow.Author.Tests.{eq-eqb, ne-eqb}
 use Rattle.answer.specs.Number.{numberOf}
 use Rattle.answer.specs.declared.Answer.the-variants.{Uninitialised}
@@ -10,9 +9,8 @@ use Rattle.keep_out.specs.Table.{keepOutsOf}
 use Rattle.keep_out.specs.declared.KeepOut.{KeepOut}
 use Rattle.keep_out.specs.declared.KeepOuts.{KeepOuts}
 use Rattle.plan.specs.Plan.{set}
-use Rattle.plan.specs.KeepOut.{Longer, moreOf, longerOf}
+use Rattle.plan.specs.KeepOut.{moreOf, longerOf}
 use Rattle.plan.specs.declared.More.{More}
-use Rattle.roadmap.specs.Map.{Milestone}
 use Rattle.roadmap.specs.View.{milestonesOf}
 use Rattle.roadmap.specs.declared.Roadmap.{Roadmap}
 use Rattle.prune.specs.Prune.{prunedOf}

@@ -1,7 +1,7 @@
 -- A construction's answer from its tests and its work.
-use mathlib.Core.Bool.{Bool, true, false}
+use mathlib.Core.Bool.{true, false}
 use mathlib.Core.List.{List}
-use mathlib.Core.Path.{_≡_, refl, sym, _∙_, ap}
+use mathlib.Core.Path.{_≡_}
 use lib.Ieee.{Float}
 use Rattle.answer.specs.declared.Answer.the-variants.{Uninitialised, BadInput}
 use Rattle.keep_out.specs.Table.{keepOutsOf}
@@ -13,7 +13,7 @@ use Rattle.roadmap.specs.declared.Built.{Built}
 use Rattle.roadmap.specs.declared.Roadmap.{Roadmap}
 use Rattle.prm.specs.declared.Prm.{Prm}
 use Rattle.prm.specs.Planner.{Given, givenBy, plannerOf}
-use Rattle.prm.specs.Construct.{Construction, constructOf}
+use Rattle.prm.specs.Construct.{constructOf}
 use Rattle.prm.proofs.Views.{view-set, view-unset}
 
 module _ (p : Prm) (samples : List Float) where

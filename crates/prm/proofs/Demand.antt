@@ -2,24 +2,23 @@
 -- one, each accepted, nothing between: the planner is that of the construction afresh from the same list under the longer list of
 -- keep-outs (`demand-3`). So milestones, neighbour lists and every query's answer, count and route are (`demand-3-queries`).
 use Prim.Native.Nat.{ℕ}
-use mathlib.Core.Bool.{Bool, true, false}
+use mathlib.Core.Bool.{true, false}
 use mathlib.Core.List.{List, [], _∷_, _++_, append-nil, append-assoc}
 use mathlib.Core.Path.{_≡_, refl, sym, _∙_, ap, subst}
 use borrow.Author.Tests.{eq-eqb}
 use lib.Dec.{T, eqb, ltb}
 use lib.ListN.{length}
 use lib.Ieee.{Float}
-use Rattle.laws.specs.Order.{whether, clash}
+use Rattle.laws.specs.Order.{whether}
 use Rattle.answer.specs.Number.{numberOf}
-use Rattle.answer.specs.declared.Answer.{Answer}
 use Rattle.answer.specs.declared.Answer.the-variants.{Done, BadInput, Full}
 use Rattle.keep_out.specs.Good.{goodKeepOut}
 use Rattle.keep_out.specs.declared.KeepOut.{KeepOut}
 use Rattle.samples.specs.Samples.{goodSamples, samplesOf}
 use Rattle.state.specs.declared.State.{State}
 use Rattle.state.specs.declared.Goal.{Goal}
-use Rattle.plan.specs.Plan.{unset, set}
-use Rattle.plan.specs.KeepOut.{Longer, longerOf}
+use Rattle.plan.specs.Plan.{set}
+use Rattle.plan.specs.KeepOut.{longerOf}
 use Rattle.roadmap.specs.Map.{Milestone}
 use Rattle.prune.specs.Prune.{prunedOf}
 use Rattle.prune.proofs.Demand as prune
@@ -53,7 +52,7 @@ module _ (g : Given) (ms : List Milestone) (k : KeepOut) where
   unfolding addOf
   answered = whether (eqb (numberOf (longerOf (g .keepOuts) k .answer)) 0) (λ e. rw e) (λ e. rw e)
 
-  accepted : addOf (set g ms) k .answer ≡ Done → addOf (set g ms) k .planner ≡ set (givenUnder g (g .keepOuts ++ (k ∷ []))) (prunedOf (g .segment) k ms)
+  pub accepted : addOf (set g ms) k .answer ≡ Done → addOf (set g ms) k .planner ≡ set (givenUnder g (g .keepOuts ++ (k ∷ []))) (prunedOf (g .segment) k ms)
   unfolding addOf
   accepted e =
       let d : longerOf (g .keepOuts) k .answer ≡ Done = sym answered ∙ e in

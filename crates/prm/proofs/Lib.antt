@@ -5,3 +5,4 @@ pub mod Constructs
 pub mod Queries
 pub mod Adds
 pub mod Demand
+pub mod Emptied

@@ -1,6 +1,6 @@
 -- The answers of a setup and of replacing start and goal, from their tests.
 use mathlib.Core.Bool.{Bool, true, false, _&&_}
-use mathlib.Core.List.{List, []}
+use mathlib.Core.List.{[]}
 use mathlib.Core.Path.{_≡_, refl, sym, _∙_, ap}
 use Rattle.laws.specs.Cases.{and-true, and-left, and-right}
 use Rattle.answer.specs.declared.Answer.the-variants.{Done, Uninitialised, BadInput}
@@ -17,7 +17,7 @@ use Rattle.plan.proofs.Answers as answers
 use Rattle.roadmap.specs.View.{milestonesOf}
 use Rattle.roadmap.specs.declared.Roadmap.{Roadmap}
 use Rattle.prm.specs.declared.Prm.{Prm}
-use Rattle.prm.specs.Planner.{View, givenBy, plannerOf, setupOf, withGoals, goalsOf}
+use Rattle.prm.specs.Planner.{View, givenBy, plannerOf, setupOf, goalsOf}
 use Rattle.prm.proofs.Views.{view-set, view-unset}
 
 module _ (planner : View) (limits : Limits) (segment radius : Length) (start : State) (goal : Goal) (table : KeepOuts) where

@@ -1,7 +1,7 @@
 -- A planner's view, and the roadmap by index.
 use Prim.Native.Nat.{ℕ}
 use mathlib.Core.Bool.{true, false}
-use mathlib.Core.Path.{_≡_, sym}
+use mathlib.Core.Path.{_≡_}
 use lib.ListN.{length}
 use Rattle.plan.specs.Plan.{unset, set}
 use Rattle.roadmap.specs.Map as map

@@ -1,6 +1,5 @@
 -- Document 01, "Adding a keep-out" and "Sizes and answers": 1, 2, 4, and a refusal keeps all. An accepted one leaves of the roadmap what it does
 -- not cover.
-use Prim.Native.Nat.{ℕ}
 use mathlib.Core.Bool.{cond}
 use mathlib.Core.List.{List, [], _∷_}
 use mathlib.Core.Path.{_≡_}
@@ -10,7 +9,7 @@ use Rattle.answer.specs.declared.Answer.the-variants.{Done, Uninitialised}
 use Rattle.keep_out.specs.declared.KeepOut.{KeepOut}
 use Rattle.plan.specs.Plan.{unset, set}
 use Rattle.plan.specs.Setup.{Told}
-use Rattle.plan.specs.KeepOut.{Longer, longerOf}
+use Rattle.plan.specs.KeepOut.{longerOf}
 use Rattle.roadmap.specs.Map.{Milestone}
 use Rattle.prune.specs.Prune.{prunedOf}
 use Rattle.prm.specs.Planner.{Given, View}

@@ -25,8 +25,9 @@ fn hits(k: KeepOut, segment: f64, from: State, to: State) -> bool
         return k.covers(to);
     }
     let whole = n as f64;
-    let mut i: usize = 1;
-    'points: while i <= n {
+    // A u32, since that becomes a float in one instruction, where a usize takes six.
+    let mut i: u32 = 1;
+    'points: while i as usize <= n {
         let point = from.interpolate(to, i as f64 / whole);
         if k.covers(point) {
             return true;

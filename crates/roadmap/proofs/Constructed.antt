@@ -1,10 +1,10 @@
 -- What a construction that is done has made, by numbers: its milestones are the valid samples in order, and a leg stands between i and an
 -- earlier j exactly if distance(i, j) is strictly below the radius and the motion i to j is accepted. So milestones and keep-outs alone
 -- say what the roadmap is (`by-milestones`).
-use Prim.Native.Nat.{ℕ, _≤_, _<_}
+use Prim.Native.Nat.{ℕ, _<_}
 use mathlib.Core.Bool.{Bool, false, _&&_}
 use mathlib.Core.List.{List, [], map}
-use mathlib.Core.Path.{_≡_, refl, sym, _∙_, ap}
+use mathlib.Core.Path.{_≡_, sym, _∙_, ap}
 use native.Mathlib.Omega.{arith}
 use lib.ListN.{length, getD}
 use lib.Ieee.{Float, nan, lt}

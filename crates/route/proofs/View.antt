@@ -1,11 +1,11 @@
 -- What the columns hold of a node is what the list of nodes has of it.
 use Prim.Native.Nat.{ℕ, _≤_, _<_}
 use mathlib.Core.List.{List}
-use mathlib.Core.Path.{_≡_, refl}
+use mathlib.Core.Path.{_≡_}
 use lib.ListN.{length, getD}
 use lib.Seq.{getD-take}
 use lib.Ieee.{Float}
-use Rattle.tree.specs.Table.{rowAt, statesOf, nodesIn, stateAt, parentAt}
+use Rattle.tree.specs.Table.{rowAt, nodesIn, stateAt, parentAt}
 use Rattle.tree.proofs.Append.{states-length, state-is}
 
 module _ (az el feed : List Float) (parent : List ℕ) (n : ℕ) (room : n ≤ 512) where

@@ -1,13 +1,13 @@
 -- A solve's answer from its tests and its run.
-use Prim.Native.Nat.{ℕ, _≤_, _<_}
-use mathlib.Core.Bool.{Bool, true, false}
+use Prim.Native.Nat.{_≤_, _<_}
+use mathlib.Core.Bool.{true, false}
 use mathlib.Core.List.{List}
-use mathlib.Core.Path.{_≡_, refl, sym, _∙_, ap}
+use mathlib.Core.Path.{_≡_, _∙_, ap}
 use lib.ListN.{length}
 use lib.Ieee.{Float}
 use Rattle.answer.specs.declared.Answer.the-variants.{Uninitialised, BadInput, Room}
 use Rattle.samples.specs.Samples.{goodSamples}
-use Rattle.tree.specs.Table.{Nodes, nodesOf}
+use Rattle.tree.specs.Table.{Nodes}
 use Rattle.tree.specs.declared.Tree.{Tree}
 use Rattle.plan.specs.Plan.{Plan, planFrom, set}
 use Rattle.plan.specs.Setup.{usableOf}

@@ -1,14 +1,14 @@
 -- What one turn of the run does to its definition. The round stays a name here.
-use Prim.Native.Nat.{ℕ, _+_, _≤_, _<_}
+use Prim.Native.Nat.{ℕ, _+_, _≤_}
 use mathlib.Core.Bool.{Bool, true, false}
-use mathlib.Core.List.{List, [], _∷_}
-use mathlib.Core.Path.{_≡_, refl, sym, _∙_, ap, ap₂}
+use mathlib.Core.List.{List, _∷_}
+use mathlib.Core.Path.{_≡_, sym, _∙_, ap, ap₂}
 use lib.ListN.{length, drop, getD}
 use lib.Ieee.{Float, nan}
 use Rattle.state.specs.declared.State.{State}
 use Rattle.samples.specs.Samples.{samplesOf}
 use Rattle.samples.proofs.Threes.{three}
-use Rattle.tree.specs.Table.{Nodes, nodesIn}
+use Rattle.tree.specs.Table.{Nodes}
 use Rattle.plan.specs.Plan.{Plan}
 use Rattle.connect.specs.declared.turn.Ends.{Ends}
 use Rattle.connect.specs.declared.round.Rounded.{Rounded}

@@ -1,6 +1,6 @@
 -- A setup's answer from its test.
 use mathlib.Core.Bool.{Bool, true, false}
-use mathlib.Core.Path.{_≡_, refl, sym, _∙_, ap, ap₂}
+use mathlib.Core.Path.{_≡_, refl, sym, _∙_, ap₂}
 use Rattle.answer.specs.declared.Answer.the-variants.{Done, BadInput}
 use Rattle.state.specs.declared.State.{State}
 use Rattle.state.specs.declared.Limits.{Limits}

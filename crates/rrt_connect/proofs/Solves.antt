@@ -1,8 +1,8 @@
 -- A solve's answer from its tests and its run.
-use Prim.Native.Nat.{ℕ, _≤_, _<_}
+use Prim.Native.Nat.{_≤_, _<_}
 use mathlib.Core.Bool.{Bool, true, false}
 use mathlib.Core.List.{List}
-use mathlib.Core.Path.{_≡_, refl, sym, _∙_, ap, ap₂}
+use mathlib.Core.Path.{_≡_, _∙_, ap, ap₂}
 use lib.ListN.{length}
 use lib.Ieee.{Float}
 use Rattle.answer.specs.declared.Answer.the-variants.{Uninitialised, BadInput, Room}
@@ -16,7 +16,7 @@ use Rattle.rrt_connect.specs.declared.RrtConnect.{RrtConnect}
 use Rattle.rrt_connect.specs.declared.run.Ran.{Ran}
 use Rattle.connect.specs.Round.{Trees}
 use Rattle.rrt_connect.specs.Planner.{usableOf, treesOf, plannerOf}
-use Rattle.rrt_connect.specs.Run.{runOf, Runs}
+use Rattle.rrt_connect.specs.Run.{Runs}
 use Rattle.rrt_connect.specs.Solve.{needed, runFrom, solveOf}
 use Rattle.rrt_connect.proofs.Views.{view-set, view-unset, usable-ready, usable-counts}
 

@@ -2,7 +2,7 @@
 -- goal, the route from root to it is the answer. An accepted motion that would add node 513 is answered with 4, and a list that is used
 -- up with 3; the sample that meets 4 counts as taken.
 use Prim.Native.Nat.{ℕ, _+_, _≤_, _<_}
-use mathlib.Core.Bool.{Bool, cond}
+use mathlib.Core.Bool.{cond}
 use mathlib.Core.List.{List, [], _∷_}
 use mathlib.Core.Path.{_≡_}
 use lib.Dec.{ltb}

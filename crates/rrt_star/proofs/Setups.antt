@@ -13,13 +13,13 @@ use Rattle.state.specs.declared.Length.{Length}
 use Rattle.state.specs.declared.Goal.{Goal}
 use Rattle.keep_out.specs.declared.KeepOuts.{KeepOuts}
 use Rattle.motion.specs.declared.Mount.{Mount}
-use Rattle.tree.specs.Table.{Nodes, nodesOf, rootOf, rootedOf}
+use Rattle.tree.specs.Table.{Nodes, nodesOf, rootedOf}
 use Rattle.tree.specs.declared.Tree.{Tree}
 use Rattle.tree.proofs.Append.{rooted-is}
 use Rattle.plan.specs.Plan.{set}
 use Rattle.plan.specs.Setup.{goodSetup, usableOf}
 use Rattle.plan.proofs.Answers as answers
-use Rattle.star.specs.Grow.{Costed, treeIn}
+use Rattle.star.specs.Grow.{treeIn}
 use Rattle.star.specs.Run.{starPlan, treeOf}
 use Rattle.rrt_star.specs.declared.RrtStar.{RrtStar}
 use Rattle.rrt_star.specs.Planner.{View, plannerOf, rootCosted, setupOf}

@@ -1,14 +1,13 @@
 -- A planner's view, and the tree by index with its costs.
 use Prim.Native.Nat.{ℕ, _≤_, _<_}
 use mathlib.Core.Bool.{true, false}
-use mathlib.Core.List.{List}
-use mathlib.Core.Path.{_≡_, refl, sym, _∙_, ap}
+use mathlib.Core.Path.{_≡_, sym, ap}
 use native.Mathlib.Omega.{arith}
 use borrow.Author.Tests.{lt-ltb, le-ltb}
 use lib.ListN.{length, getD}
 use lib.Seq.{getD-take}
-use lib.Ieee.{Float, nan}
-use Rattle.tree.specs.Table.{nodesIn, nodesOf, nodeAtOf}
+use lib.Ieee.{nan}
+use Rattle.tree.specs.Table.{nodesOf, nodeAtOf}
 use Rattle.tree.specs.declared.NodeAt.the-variants as node
 use Rattle.star.proofs.Length.{tree-length}
 use Rattle.plan.specs.Plan.{unset, set}

@@ -1,7 +1,7 @@
 -- What an RRT* planner is to its caller, and document 01's setup: search_radius comes after max_distance.
 use Prim.Native.Nat.{ℕ}
 use mathlib.Core.Bool.{_&&_, cond}
-use mathlib.Core.List.{List, [], _∷_}
+use mathlib.Core.List.{[], _∷_}
 use lib.Dec.{ltb}
 use lib.ListN.{length, getD}
 use lib.Ieee.{binary64, nan, ofBits}

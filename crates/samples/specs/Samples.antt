@@ -1,5 +1,5 @@
 -- Document 01, "Sizes and answers": sample lists are f64, length a multiple of 3; "The mount": an input coordinate is accepted in its range.
-use Prim.Native.Nat.{ℕ, _%_}
+use Prim.Native.Nat.{_%_}
 use mathlib.Core.Bool.{Bool, true, _&&_}
 use mathlib.Core.List.{List, [], _∷_}
 use lib.Dec.{eqb}

@@ -2,10 +2,11 @@
 use Prim.Native.Nat.{ℕ, zero, suc, _+_, _-_, _<_, _≤_}
 use mathlib.Core.Bool.{Bool, true, false}
 use mathlib.Core.List.{List}
-use mathlib.Core.Path.{_≡_, refl, _∙_, ap}
+use mathlib.Core.Path.{_≡_, refl, sym, _∙_, ap}
 use native.Mathlib.Omega.{arith}
 use borrow.Author.Tests.{lt-ltb, le-ltb}
 use lib.ListN.{length, getD, replicate}
+use Rattle.legs.proofs.Square.{cleared}
 use Rattle.roadmap.specs.View.{spanOf}
 use Rattle.roadmap.proofs.Span.{span-long, span-get}
 use Rattle.search.specs.Search.{Place, placeAt, queuedOf, pushOf, nothing, here, searchOf}
@@ -24,8 +25,8 @@ place-is order from n p h =
     ap (λ (x : Place). x .number) (span-get 0 n (placeIn order from) p (record { number = 0; from = 0 }) h ∙ ap (placeIn order from) e)
 
 -- there is room for each milestone once
-pub queue-few : (top : ℕ) (marks : List Bool) (order from : List ℕ) (n : ℕ) → Queue top marks order from n → n ≤ 256
-queue-few top marks order from n queue = omega (arith, count-le marks, queue .marked, queue .count)
+pub queue-few : (top : ℕ) (marks : List Bool) (seen order from : List ℕ) (n : ℕ) → Queue top marks seen order from n → n ≤ 256
+queue-few top marks seen order from n queue = omega (arith, count-le marks, queue .marked, queue .count)
 
 module _ (goal : ℕ → Bool) (next : ℕ → List ℕ) (order from : List ℕ) (n p : ℕ) where
   abbrev q : List Place
@@ -66,14 +67,16 @@ no-count (suc k) = no-count k
 none : (p : ℕ) → p < 0 → ⊥
 none p h = omega arith
 
-pub no-queue : (top : ℕ) → Queue top (replicate 256 false) (replicate 256 0) (replicate 256 0) 0
+pub no-queue : (top : ℕ) → Queue top (replicate 256 false) (replicate 4 0) (replicate 256 0) (replicate 256 0) 0
 unfolding queueOf spanOf queuedOf
 no-queue top =
     record {
       marked = refl;
+      packed = refl;
       ordered = refl;
       backed = refl;
       is = λ v h. zeros 256 v;
+      same = λ v h. cleared 4 0 v ∙ sym (zeros 256 v);
       count = no-count 256;
       low = λ p h. absurd (none p h);
     }

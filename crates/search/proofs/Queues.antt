@@ -1,5 +1,5 @@
 -- Laws of the queue in tables.
-use Prim.Native.Nat.{ℕ, zero, suc, _+_, _<_, _≤_}
+use Prim.Native.Nat.{ℕ, zero, suc, _+_, _*_, _/_, _%_, _^_, _<_, _≤_}
 use mathlib.Core.Bool.{Bool, true, false, _||_}
 use mathlib.Core.List.{List, [], _∷_, _++_}
 use mathlib.Core.Path.{_≡_, refl, sym, _∙_, ap, ap₂}
@@ -7,9 +7,12 @@ use native.Mathlib.Omega.{arith}
 use native.Mathlib.Decide.{ℕ-discrete, decLt}
 use native.Mathlib.Numerals.{add-one}
 use borrow.Author.Tests.{eq-eqb, ne-eqb}
+use lib.Bits.{bitOr}
 use lib.Dec.{eqb}
 use lib.ListN.{length, getD, set, length-set}
 use lib.Seq.{getD-set-same, getD-set-other}
+use Rattle.legs.specs.Bits.{legAt}
+use Rattle.legs.proofs.Square.{mark-is}
 use Rattle.search.specs.Search.{Place, queuedOf, pushOf}
 use Rattle.search.specs.Queue.{queueOf, countOf, Queue, Pushed}
 use Rattle.roadmap.proofs.Span.{span-snoc, span-same}
@@ -37,20 +40,24 @@ count-set (false ∷ l) zero h e = omega arith
 count-set (true ∷ l) (suc v) h e = omega (arith, count-set l v (omega arith) e)
 count-set (false ∷ l) (suc v) h e = count-set l v (omega arith) e
 
+or-true : (b : Bool) → true ≡ b || true
+or-true true = refl
+or-true false = refl
+
+or-none : (b : Bool) → b ≡ b || false
+or-none true = refl
+or-none false = refl
+
 queued-snoc : (q : List Place) (v f w : ℕ) → queuedOf (q ++ (record { number = v; from = f } ∷ [])) w ≡ queuedOf q w || eqb v w
 unfolding queuedOf
-queued-snoc [] v f w = or-none (eqb v w)
-  where
-    or-none : (b : Bool) → b || false ≡ b
-    or-none true = refl
-    or-none false = refl
+queued-snoc [] v f w = sym (or-none (eqb v w))
 queued-snoc (p ∷ q) v f w = go (eqb (p .number) w) _ (queuedOf q w) (eqb v w) (queued-snoc q v f w)
   where
     go : (b x y z : Bool) → x ≡ y || z → b || x ≡ b || y || z
     go true x y z e = refl
     go false x y z e = e
 
-push-yes : (f : ℕ) (q : List Place) (v : ℕ) → queuedOf q v ≡ true → pushOf f q (v ∷ []) ≡ q
+pub push-yes : (f : ℕ) (q : List Place) (v : ℕ) → queuedOf q v ≡ true → pushOf f q (v ∷ []) ≡ q
 unfolding pushOf
 push-yes f q v e = rw e
 
@@ -62,13 +69,13 @@ pub push-next : (f : ℕ) (q : List Place) (v : ℕ) (vs : List ℕ) → pushOf 
 unfolding pushOf
 push-next f q v vs = refl
 
-module _ (top : ℕ) (marks : List Bool) (order from : List ℕ) (n v f : ℕ) (ht : v < top) (hv : v < 256) (queue : Queue top marks order from n) where
+module _ (top : ℕ) (marks : List Bool) (seen order from : List ℕ) (n v f : ℕ) (ht : v < top) (hv : v < 256) (queue : Queue top marks seen order from n) where
   pub room : getD marks v false ≡ false → n < 256
   room e =
       let c = count-set marks v (omega (arith, queue .marked)) e in
       omega (arith, c, count-le (set marks v true), length-set marks v true, queue .marked, queue .count)
 
-  pub push-held : getD marks v false ≡ true → Pushed top order from n f (v ∷ []) marks order from n
+  pub push-held : getD marks v false ≡ true → Pushed top order from n f (v ∷ []) marks seen order from n
   push-held e = record { queue = queue; places = sym (push-yes f (queueOf order from n) v (sym (queue .is v hv) ∙ e)); more = omega arith }
 
   module _ (e : getD marks v false ≡ false) where
@@ -104,26 +111,36 @@ module _ (top : ℕ) (marks : List Bool) (order from : List ℕ) (n v f : ℕ) (
           | yes p ↦ rw (p, getD-set-same marks v true false (omega (arith, queue .marked)), eq-eqb v v refl) (or-true (queuedOf q v))
           | no p ↦ rw (getD-set-other marks v w true false p, ne-eqb v w (λ z. p (sym z)), queue .is w hw) (or-none (queuedOf q w))
         ]
-      where
-        or-true : (b : Bool) → true ≡ b || true
-        or-true true = refl
-        or-true false = refl
 
-        or-none : (b : Bool) → b ≡ b || false
-        or-none true = refl
-        or-none false = refl
+    -- the bits before and after the store
+    abbrev seen′ : List ℕ
+    seen′ = set seen (v / 64) (bitOr (getD seen (v / 64) 0) ((1 * 2 ^ (v % 64)) % 18446744073709551616))
+
+    seen-is : (w : ℕ) → w < 256 → legAt seen′ 0 w ≡ legAt seen 0 w || eqb w v
+    seen-is w hw =
+        let z : 4 * 0 + v / 64 ≡ v / 64 = omega arith in
+        rw z at (mark-is seen 0 v (omega (arith, queue .packed)) hv 0 w hw)
+
+    seen-same : (w : ℕ) → w < 256 → legAt seen′ 0 w ≡ getD (set marks v true) w false
+    seen-same w hw =
+        elim (ℕ-discrete w v) [
+          | yes p ↦ seen-is w hw ∙ rw (p, getD-set-same marks v true false (omega (arith, queue .marked)), eq-eqb v v refl) (sym (or-true (legAt seen 0 v)))
+          | no p ↦ seen-is w hw ∙ rw (getD-set-other marks v w true false p, ne-eqb w v p, queue .same w hw) (sym (or-none (getD marks w false)))
+        ]
 
     low-last : (p : ℕ) → p ≡ n → getD (set order n v) p 0 < top
     low-last p z = let h = room e in rw (z, getD-set-same order n v 0 (omega (arith, queue .ordered))) ht
 
-    pub push-new : Pushed top order from n f (v ∷ []) (set marks v true) (set order n v) (set from n f) (n + 1)
+    pub push-new : Pushed top order from n f (v ∷ []) (set marks v true) seen′ (set order n v) (set from n f) (n + 1)
     push-new =
         record {
           queue = record {
             marked = length-set marks v true ∙ queue .marked;
+            packed = length-set seen (v / 64) _ ∙ queue .packed;
             ordered = length-set order n v ∙ queue .ordered;
             backed = length-set from n f ∙ queue .backed;
             is = λ w hw. marks-same w hw ∙ sym (queued-snoc q v f w) ∙ ap (λ (x : List Place). queuedOf x w) (sym queue-snoc);
+            same = seen-same;
             count = count-set marks v (omega (arith, queue .marked)) e ∙ ap (λ (x : ℕ). x + 1) (queue .count);
             low = λ p h. elim (decLt p n) [ yes r ↦ rw (getD-set-other order n p v 0 (λ z. omega arith)) (queue .low p r) | no r ↦ low-last p (omega arith) ];
           };

@@ -30,14 +30,14 @@ module _ (goal : Goal) (az el feed : List Float) (legs : List ℕ) (count : ℕ)
   abbrev pub seeks : ℕ → List Place → ℕ → Found
   seeks fuel q p = searchOf fuel (goalOf goal ms) (neighboursOf ms) q p
 
-  pub record Seeking (q₀ : List Place) (marks : List Bool) (order from : List ℕ) (n p : ℕ) : Type 0 where
+  pub record Seeking (q₀ : List Place) (marks : List Bool) (seen order from : List ℕ) (n p : ℕ) : Type 0 where
     pub within : p ≤ n
-    pub queue : Queue count marks order from n
+    pub queue : Queue count marks seen order from n
     -- the whole search is the search from here
     pub is : seeks 256 q₀ 0 ≡ seeks (256 - p) (queueOf order from n) p
 
-  pub seeking-starts : (marks : List Bool) (order from : List ℕ) (n : ℕ) → Queue count marks order from n → Seeking (queueOf order from n) marks order from n 0
-  seeking-starts marks order from n queue = record { within = omega arith; queue = queue; is = refl }
+  pub seeking-starts : (marks : List Bool) (seen order from : List ℕ) (n : ℕ) → Queue count marks seen order from n → Seeking (queueOf order from n) marks seen order from n 0
+  seeking-starts marks seen order from n queue = record { within = omega arith; queue = queue; is = refl }
 
   goal-is : (u : ℕ) → u < count → goalOf goal ms u ≡ satisfiedOf goal (stateIn az el feed u)
   unfolding goalOf
@@ -47,8 +47,8 @@ module _ (goal : Goal) (az el feed : List Float) (legs : List ℕ) (count : ℕ)
   unfolding neighboursOf
   next-is u h = rw (view-at az el feed legs count u h)
 
-module _ {goal : Goal} {az el feed : List Float} {legs : List ℕ} {count : ℕ} {q₀ : List Place} {marks : List Bool} {order from : List ℕ} {n p : ℕ}
-    (h : Seeking goal az el feed legs count q₀ marks order from n p) where
+module _ {goal : Goal} {az el feed : List Float} {legs : List ℕ} {count : ℕ} {q₀ : List Place} {marks : List Bool} {seen order from : List ℕ} {n p : ℕ}
+    (h : Seeking goal az el feed legs count q₀ marks seen order from n p) where
   abbrev at : ℕ → State
   at = stateIn az el feed
 
@@ -56,7 +56,7 @@ module _ {goal : Goal} {az el feed : List Float} {legs : List ℕ} {count : ℕ}
   seek = seeks goal az el feed legs count
 
   pub few : n ≤ 256
-  few = queue-few count marks order from n (h .queue)
+  few = queue-few count marks seen order from n (h .queue)
 
   module _ (more : p < n) where
     abbrev u : ℕ
@@ -73,9 +73,9 @@ module _ {goal : Goal} {az el feed : List Float} {legs : List ℕ} {count : ℕ}
       seeking-goal e = h .is ∙ search-goal _ _ order from n p few more (goal-at ∙ e)
 
       pub seeking-next :
-          {marks′ : List Bool} {order′ from′ : List ℕ} {n′ : ℕ} → met ≡ false →
-          Pushed count order from n (p + 1) (numbersOf 0 (spanOf 0 count (λ (j : ℕ). legAt legs u j))) marks′ order′ from′ n′ →
-          Seeking goal az el feed legs count q₀ marks′ order′ from′ n′ (p + 1)
+          {marks′ : List Bool} {seen′ order′ from′ : List ℕ} {n′ : ℕ} → met ≡ false →
+          Pushed count order from n (p + 1) (numbersOf 0 (spanOf 0 count (λ (j : ℕ). legAt legs u j))) marks′ seen′ order′ from′ n′ →
+          Seeking goal az el feed legs count q₀ marks′ seen′ order′ from′ n′ (p + 1)
       seeking-next e pushed =
           record {
             within = omega (arith, pushed .more);
@@ -94,13 +94,13 @@ module _ {goal : Goal} {az el feed : List Float} {legs : List ℕ} {count : ℕ}
   unfolding treeOf queueOf
   tree-is start = rw states
     where
-      seen : ℕ → State
-      seen i = milestoneAt (ms goal az el feed legs count) i .at
+      found-at : ℕ → State
+      found-at i = milestoneAt (ms goal az el feed legs count) i .at
 
-      states : map (λ (p : Place). seen (p .number)) (spanOf 0 n (placeIn order from)) ≡ map (λ (p : Place). at (p .number)) (spanOf 0 n (placeIn order from))
+      states : map (λ (p : Place). found-at (p .number)) (spanOf 0 n (placeIn order from)) ≡ map (λ (p : Place). at (p .number)) (spanOf 0 n (placeIn order from))
       states =
-          span-map 0 n (placeIn order from) (λ (p : Place). seen (p .number))
-          ∙ span-same 0 n (λ (j : ℕ). seen (getD order j 0)) (λ (j : ℕ). at (getD order j 0))
+          span-map 0 n (placeIn order from) (λ (p : Place). found-at (p .number))
+          ∙ span-same 0 n (λ (j : ℕ). found-at (getD order j 0)) (λ (j : ℕ). at (getD order j 0))
           (λ j a b. ap (λ (m : Milestone). m .at) (view-at az el feed legs count (getD order j 0) (h .queue .low j (omega arith))))
           ∙ sym (span-map 0 n (placeIn order from) (λ (p : Place). at (p .number)))
 

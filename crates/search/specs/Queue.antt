@@ -4,6 +4,7 @@ use mathlib.Core.Bool.{Bool, true, false}
 use mathlib.Core.List.{List, [], _∷_}
 use mathlib.Core.Path.{_≡_}
 use lib.ListN.{getD, length}
+use Rattle.legs.specs.Bits.{legAt}
 use Rattle.roadmap.specs.View.{spanOf}
 use Rattle.search.specs.Search.{Place, queuedOf, pushOf}
 
@@ -22,18 +23,21 @@ abbrev pub Numbers : ℕ → List ℕ → Type 0
 Numbers n order = (p : ℕ) → p < n → getD order p 0 < 256
 
 -- marks and columns hold a queue of milestones below top
-pub record Queue (top : ℕ) (marks : List Bool) (order from : List ℕ) (n : ℕ) : Type 0 where
+pub record Queue (top : ℕ) (marks : List Bool) (seen order from : List ℕ) (n : ℕ) : Type 0 where
   pub marked : length marks ≡ 256
+  pub packed : length seen ≡ 4
   pub ordered : length order ≡ 256
   pub backed : length from ≡ 256
   -- a milestone is marked exactly if it is queued
   pub is : (v : ℕ) → v < 256 → getD marks v false ≡ queuedOf (queueOf order from n) v
+  -- a row of bits has the same marks
+  pub same : (v : ℕ) → v < 256 → legAt seen 0 v ≡ getD marks v false
   -- there are as many marks as places
   pub count : countOf marks ≡ n
   pub low : (p : ℕ) → p < n → getD order p 0 < top
 
 -- afterwards: a queue, with those of vs that were not queued as reached from f
-pub record Pushed (top : ℕ) (order from : List ℕ) (n f : ℕ) (vs : List ℕ) (marks′ : List Bool) (order′ from′ : List ℕ) (n′ : ℕ) : Type 0 where
-  pub queue : Queue top marks′ order′ from′ n′
+pub record Pushed (top : ℕ) (order from : List ℕ) (n f : ℕ) (vs : List ℕ) (marks′ : List Bool) (seen′ order′ from′ : List ℕ) (n′ : ℕ) : Type 0 where
+  pub queue : Queue top marks′ seen′ order′ from′ n′
   pub places : queueOf order′ from′ n′ ≡ pushOf f (queueOf order from n) vs
   pub more : n ≤ n′

@@ -8,7 +8,6 @@ use state::Limits;
 use state::State;
 use tree::Tree;
 ghost use mathlib.Core.List.{_∷_, []};
-ghost use mathlib.Core.Path.{_≡_};
 ghost use Prim.Native.Nat.{ℕ, _+_, _≤_, _<_};
 ghost use lib.ListN.{length};
 ghost use Rattle.keep_out.specs.Table.{keepOutsOf};
@@ -21,23 +20,27 @@ ghost use Rattle.search.specs.Search.{numbersOf};
 ghost use Rattle.search.specs.Query.{treeOf, queryOf, Routed};
 ghost use Rattle.search.specs.Queue.{queueOf, Queue, Pushed, Numbers};
 
-// Queues v, one of count milestones, as reached from f, unless it is queued. Returns the number of places.
+// Queues v, one of count milestones, as reached from f, unless it is queued. `seen` has the marks once more, as a row of bits: beside a
+// row of legs it tells which neighbours are left, a word at a time. Returns the number of places.
 fn push(
     count: usize,
     marks: &mut [bool; 256],
+    seen: &mut [u64; 4],
     order: &mut [usize; 256],
     from: &mut [usize; 256],
     n: usize,
     v: usize,
     f: usize,
 ) -> usize
-    requires { ⌜ (v < count) × (count ≤ 256) × Queue count (now marks) (now order) (now from) n ⌝ }
-    ensures { λ r. ⌜ Pushed count (now (order .entry)) (now (from .entry)) n f (v ∷ []) (now (marks .exit)) (now (order .exit)) (now (from .exit)) r ⌝ }
+    requires { ⌜ (v < count) × (count ≤ 256) × Queue count (now marks) (now seen) (now order) (now from) n ⌝ }
+    ensures { λ r. ⌜ Pushed count (now (order .entry)) (now (from .entry)) n f (v ∷ []) (now (marks .exit)) (now (seen .exit)) (now (order .exit)) (now (from .exit)) r ⌝ }
 {
     if marks[v] {
         n
     } else {
         marks[v] = true;
+        let at = v / 64;
+        seen[at] = seen[at] | (1 << (v % 64));
         order[n] = v;
         from[n] = f;
         n + 1
@@ -58,11 +61,12 @@ fn connect<'a>(
     feed: &'a [f64; 256],
     count: usize,
     marks: &mut [bool; 256],
+    seen: &mut [u64; 4],
     order: &mut [usize; 256],
     from: &mut [usize; 256],
 ) -> usize
-    requires { ⌜ (count ≤ 256) × Queue count (now marks) (now order) (now from) 0 ⌝ }
-    ensures { λ r. ⌜ Pushed count (now (order .entry)) (now (from .entry)) 0 0 (numbersOf 0 (spanOf 0 count (λ (j : ℕ). joinedOf limits segment (columnsOf (now (kinds .entry)) (now (numbers .entry)) «keep_outs») radius start (stateIn (now (az .entry)) (now (el .entry)) (now (feed .entry)) j)))) (now (marks .exit)) (now (order .exit)) (now (from .exit)) r ⌝ }
+    requires { ⌜ (count ≤ 256) × Queue count (now marks) (now seen) (now order) (now from) 0 ⌝ }
+    ensures { λ r. ⌜ Pushed count (now (order .entry)) (now (from .entry)) 0 0 (numbersOf 0 (spanOf 0 count (λ (j : ℕ). joinedOf limits segment (columnsOf (now (kinds .entry)) (now (numbers .entry)) «keep_outs») radius start (stateIn (now (az .entry)) (now (el .entry)) (now (feed .entry)) j)))) (now (marks .exit)) (now (seen .exit)) (now (order .exit)) (now (from .exit)) r ⌝ }
 {
     let mut n: usize = 0;
     let mut v: usize = 0;
@@ -74,7 +78,7 @@ fn connect<'a>(
         };
         if start.distance(m) < radius {
             if motion::accepts(limits, segment, kinds, numbers, keep_outs, start, m) {
-                n = push(count, marks, order, from, n, v, 0);
+                n = push(count, marks, seen, order, from, n, v, 0);
             }
         }
         v += 1;
@@ -82,25 +86,26 @@ fn connect<'a>(
     n
 }
 
-// Queues the neighbours of u among the first count milestones, ascending.
+// Queues the neighbours of u among the first count milestones, ascending. Most are queued already, and those are not met.
 fn spread(
     legs: &[u64; 1024],
     u: usize,
     count: usize,
     marks: &mut [bool; 256],
+    seen: &mut [u64; 4],
     order: &mut [usize; 256],
     from: &mut [usize; 256],
     held: usize,
     f: usize,
 ) -> usize
-    requires { ⌜ (u < 256) × (count ≤ 256) × Queue count (now marks) (now order) (now from) held ⌝ }
-    ensures { λ r. ⌜ Pushed count (now (order .entry)) (now (from .entry)) held f (numbersOf 0 (spanOf 0 count (λ (j : ℕ). legAt (now (legs .entry)) u j))) (now (marks .exit)) (now (order .exit)) (now (from .exit)) r ⌝ }
+    requires { ⌜ (u < 256) × (count ≤ 256) × Queue count (now marks) (now seen) (now order) (now from) held ⌝ }
+    ensures { λ r. ⌜ Pushed count (now (order .entry)) (now (from .entry)) held f (numbersOf 0 (spanOf 0 count (λ (j : ℕ). legAt (now (legs .entry)) u j))) (now (marks .exit)) (now (seen .exit)) (now (order .exit)) (now (from .exit)) r ⌝ }
 {
     let mut n = held;
-    let mut v = legs::next(legs, u, 0);
+    let mut v = legs::next_unseen(legs, u, seen, 0);
     'neighbours: while v < count {
-        n = push(count, marks, order, from, n, v, f);
-        v = legs::next(legs, u, v + 1);
+        n = push(count, marks, seen, order, from, n, v, f);
+        v = legs::next_unseen(legs, u, seen, v + 1);
     }
     n
 }
@@ -164,6 +169,7 @@ pub fn find_route(
         Roadmap::MOST
     };
     let mut marks: [bool; 256] = [false; 256];
+    let mut seen: [u64; 4] = [0; 4];
     let mut order: [usize; 256] = [0; 256];
     let mut from: [usize; 256] = [0; 256];
     let mut n = connect(
@@ -179,6 +185,7 @@ pub fn find_route(
         &map.feed,
         count,
         &mut marks,
+        &mut seen,
         &mut order,
         &mut from,
     );
@@ -208,6 +215,7 @@ pub fn find_route(
             u,
             count,
             &mut marks,
+            &mut seen,
             &mut order,
             &mut from,
             n,

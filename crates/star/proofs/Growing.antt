@@ -2,7 +2,7 @@
 use Prim.Native.Nat.{ℕ, _+_, _≤_, _<_}
 use mathlib.Core.Bool.{true, false}
 use mathlib.Core.List.{List, [], _∷_, _++_}
-use mathlib.Core.Path.{_≡_, refl, sym, _∙_, ap, ap₂}
+use mathlib.Core.Path.{_≡_, refl, sym, _∙_, ap}
 use native.Mathlib.Omega.{arith}
 use native.Mathlib.Numerals.{add-one}
 use borrow.Author.Tests.{lt-ltb, le-ltb}
@@ -12,7 +12,7 @@ use lib.Ieee.{Float}
 use Rattle.state.specs.declared.State.{State}
 use Rattle.state.specs.declared.Limits.{Limits}
 use Rattle.keep_out.specs.declared.KeepOut.{KeepOut}
-use Rattle.tree.specs.Table.{Nodes, statesOf, nodesIn}
+use Rattle.tree.specs.Table.{statesOf, nodesIn}
 use Rattle.tree.specs.Nearest.{nearestOf}
 use Rattle.tree.specs.Step.{stepFrom, stepOf}
 use Rattle.tree.specs.declared.Stepped.{Stepped}

@@ -21,7 +21,7 @@ use Rattle.extend.specs.declared.Verdict.the-variants as verdict
 use Rattle.route.specs.Path.{pathOf}
 use Rattle.route.specs.Written.{writtenOf}
 use Rattle.plan.specs.Solve.{Ended, noRoute}
-use Rattle.star.specs.Grow.{Reach, Costed, treeIn, Step, growOf}
+use Rattle.star.specs.Grow.{Reach, Costed, treeIn, growOf}
 use Rattle.star.specs.declared.run.Ran.{Ran}
 
 -- what a setup gave, without the start

@@ -4,7 +4,6 @@ use state::Limits;
 use state::State;
 use tree::Tree;
 ghost use Prim.Native.Nat.{_≤_, _<_};
-ghost use lib.ListN.{length, take};
 ghost use Rattle.columns.specs.Columns.{columnsOf};
 ghost use Rattle.star.specs.Grow.{Sized, planWith, treeIn, Grows};
 

@@ -1,5 +1,5 @@
 -- A distance is never NaN, negative or -0.0, for any two states: it starts at +0.0 and is replaced only by what is strictly larger.
-use mathlib.Core.Bool.{true, cond}
+use mathlib.Core.Bool.{true}
 use mathlib.Core.Path.{_≡_, refl}
 use lib.Ieee.{Float, binary64, lt, ofBits}
 use Rattle.laws.specs.Order.{whether, good, beyond}

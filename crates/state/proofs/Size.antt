@@ -1,12 +1,11 @@
 -- The size of a number, by its bits without the sign's, and what it does to a running number that is not below zero.
-use Prim.Native.Nat.{ℕ, zero, suc, _+_, _*_, _%_, _^_, _≤_, _<_}
+use Prim.Native.Nat.{ℕ, zero, suc, _+_, _*_, _%_, _≤_, _<_}
 use mathlib.Core.Bool.{Bool, true, false, not, cond}
 use mathlib.Core.Path.{_≡_, refl, sym, _∙_, ap, subst}
 use native.Mathlib.Nat.{zero-mul, mul-one, mul-pos, mod-eq-of-lt, add-mod-left}
 use native.Mathlib.Omega.{arith}
 use borrow.Author.Tests.{lt-ltb, le-ltb, ltb-false}
-use lib.Dec.{T, ltb, nltb→le}
-use lib.IntN.{pos}
+use lib.Dec.{T, ltb}
 use lib.Bits.{bitAnd, and-mask}
 use lib.Ieee.{Float, nan, inf, fin, binary64, up, down, below, sub, neg, lt, eq, ne, fits, isNan, nanBits, ofBits, toBits}
 use lib.Ieee.Bits.{ofBits-toBits, toBits-lt, nanBits-is}

@@ -2,7 +2,7 @@
 // Each type has a constructor that refuses bad numbers, and `is_good`, which says the same of a value that somebody else made.
 ghost use mathlib.Core.Path.{_≡_};
 ghost use mathlib.Core.Bool.{false};
-ghost use lib.Ieee.{Float, binary64, lt, ofBits};
+ghost use lib.Ieee.{binary64, lt, ofBits};
 ghost use Rattle.state.specs.Ranges.{insideOf, withinOf, coordinateOf, goodState, atMostOf, goodSpan, goodLimits, goodLength, goodGoal};
 ghost use Rattle.state.specs.Made.{stateOf, limitsOf, lengthOf, goalOf};
 ghost use Rattle.state.specs.Distance.{apartOf, widerOf, distanceOf};

@@ -1,9 +1,8 @@
 -- What one turn of the search for the nearest row does to the definition. The distance stays a name.
 use Prim.Native.Nat.{ℕ, _+_, _-_, _≤_, _<_, min}
-use mathlib.Core.Bool.{Bool, true, false, cond}
-use mathlib.Core.List.{List, [], _∷_}
-use mathlib.Core.Path.{_≡_, refl, sym, _∙_, ap}
-use native.Mathlib.Omega.{arith}
+use mathlib.Core.Bool.{true, false}
+use mathlib.Core.List.{List, []}
+use mathlib.Core.Path.{_≡_, _∙_, ap}
 use lib.Ieee.{Float, lt}
 use Rattle.state.specs.Distance.{distanceOf}
 use Rattle.state.specs.declared.State.{State}

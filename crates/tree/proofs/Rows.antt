@@ -1,11 +1,9 @@
 -- The rows of three columns, walked from the front.
-use Prim.Native.Nat.{ℕ, zero, suc, _+_, _-_, _≤_, _<_, min}
-use mathlib.Core.List.{List, [], _∷_, _++_}
-use mathlib.Core.Path.{_≡_, refl, sym, _∙_, ap}
+use Prim.Native.Nat.{ℕ, suc, _+_, _-_, _≤_, _<_, min}
+use mathlib.Core.List.{List, [], _∷_}
+use mathlib.Core.Path.{_≡_}
 use native.Mathlib.Omega.{arith}
-use lib.ListN.{length, getD}
 use lib.Ieee.{Float}
-use Rattle.state.specs.declared.State.{State}
 use Rattle.tree.specs.Table.{rowAt, rowsOf, statesOf}
 
 module _ (az el feed : List Float) (n : ℕ) where

@@ -2,7 +2,7 @@
 use Prim.Native.Nat.{ℕ, _≤_, _<_}
 use mathlib.Core.Bool.{Bool, not}
 use mathlib.Core.List.{List}
-use mathlib.Core.Path.{_≡_, refl, sym, _∙_, ap}
+use mathlib.Core.Path.{_≡_}
 use lib.Ieee.{Float, lt}
 use Rattle.state.specs.Steering.{steerBy}
 use Rattle.state.specs.declared.State.{State}
@@ -10,7 +10,6 @@ use Rattle.state.specs.declared.Limits.{Limits}
 use Rattle.keep_out.specs.declared.KeepOut.{KeepOut}
 use Rattle.motion.specs.Accepts.{acceptsOf}
 use Rattle.tree.specs.declared.Near.{Near}
-use Rattle.tree.specs.declared.Stepped.{Stepped}
 use Rattle.tree.specs.Table.{rowAt, statesOf}
 use Rattle.tree.specs.Nearest.{nearestOf}
 use Rattle.tree.specs.Step.{stepFrom, stepOf}

@@ -1,6 +1,5 @@
 -- Document 01, "Tree step". Nearest node. If the least distance exceeds max_distance, the new state is the interpolation from that node
 -- at t = max_distance / least; otherwise the sample itself, equality included. Then the motion check from nearest to new.
-use Prim.Native.Nat.{ℕ}
 use mathlib.Core.Bool.{not}
 use mathlib.Core.List.{List}
 use lib.Ieee.{Float, lt}

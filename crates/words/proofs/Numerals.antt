@@ -1,6 +1,6 @@
 -- What a run of digits, and a second one behind a point, say of a word as a numeral.
 use Prim.Native.Nat.{ℕ, _+_, _-_, _^_, _≤_, _<_}
-use mathlib.Core.Bool.{Bool, true, false}
+use mathlib.Core.Bool.{Bool, true}
 use mathlib.Core.List.{List, [], _∷_}
 use mathlib.Core.Logic.{⊎-elim}
 use mathlib.Core.Path.{_≡_, refl, sym, ap, _∙_, subst}
@@ -10,7 +10,7 @@ use lib.ListN.{length, drop, getD}
 use Rattle.numeral.specs.declared.NumeralMade.{NumeralMade}
 use Rattle.numeral.specs.declared.NumeralMade.the-variants.{Bad}
 use Rattle.words.specs.Digits.{isDigit, lead, after, readOn}
-use Rattle.words.specs.Number.{limitedOf, madeOf, partOf, plainOf, wholeIn, wholeOf}
+use Rattle.words.specs.Number.{limitedOf, partOf, plainOf, wholeOf}
 use Rattle.words.specs.Runs.{Ended, Long, Reads}
 use Rattle.words.specs.declared.number.Whole.the-variants as whole
 use Rattle.words.proofs.Lists.{nil, here, none}

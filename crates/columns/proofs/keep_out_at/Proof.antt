@@ -1,6 +1,6 @@
 -- `columns::keep_out_at` meets its contract.
 use Rattle.columns.proofs.Rows.{a-box, a-disc, a-floor}
-use Rattle.columns.specs.Rows.{keepOutAt, rowAt}
+use Rattle.columns.specs.Rows.{keepOutAt}
 use borrow.Author.Needs.{needs}
 use Rattle.columns.proofs.keep_out_at.Statement.{statement}
 use Rattle.columns.proofs.keep_out_at.Tie as tie

@@ -1,5 +1,4 @@
 -- `host::rindmosaic_rrt` meets its contract.
-use mathlib.Core.Path.{_≡_, sym}
 use denote.Ref.{now}
 use borrow.Author.Needs.{needs}
 use Rattle.rrt.specs.Planner.{answeredOf}

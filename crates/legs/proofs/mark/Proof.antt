@@ -1,5 +1,6 @@
 -- `legs::mark` meets its contract.
 use lib.ListN.{length-set}
+use native.Mathlib.Omega.{arith}
 use Rattle.legs.proofs.Square.{mark-is}
 use borrow.Author.Needs.{needs}
 use Rattle.legs.proofs.mark.Statement.{statement}
@@ -29,7 +30,7 @@ element-write-legs c = search needs
 returns : tie.Need-returns
 returns c =
     let s = c .before in
-    record { long = simp length-set; is = mark-is (s .args .legs .now) (s .args .i) (s .args .j) (s .pre .2) (s .pre .0) (s .pre .1) }
+    record { long = simp length-set; is = λ a b ha hb. mark-is (s .args .legs .now) (s .args .i) (s .args .j) (omega (arith, s .pre .2)) (s .pre .1) a b hb }
 
 pub mark-spec : {M : Type 1} → statement M
 mark-spec =

@@ -1,8 +1,8 @@
 -- `motion::accepts` meets its contract.
-use Prim.Native.Nat.{ℕ, _≤_, _<_, _-_, _+_, min, max}
+use Prim.Native.Nat.{_≤_, _-_, _+_, min, max}
 use mathlib.Core.Bool.{Bool}
 use mathlib.Core.Logic.{⊎-elim}
-use mathlib.Core.Path.{_≡_, refl, sym, _∙_, ap}
+use mathlib.Core.Path.{_≡_, sym, _∙_, ap}
 use native.Mathlib.Omega.{arith}
 use borrow.Author.Needs.{needs}
 use denote.Ref.{now}

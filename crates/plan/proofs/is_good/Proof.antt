@@ -1,5 +1,5 @@
 -- `plan::is_good` meets its contract.
-use mathlib.Core.Path.{_≡_, sym, _∙_}
+use mathlib.Core.Path.{sym, _∙_}
 use borrow.Author.Needs.{needs}
 use Rattle.plan.proofs.Good.{bad-mount, bad-reach, bad-start, rests-on-goal}
 use Rattle.plan.proofs.is_good.Statement.{statement}

@@ -50,8 +50,11 @@ points-holds c =
     let told = c .before .before in
     (omega arith, steps-few _ _ _ _ (count-is told), hit-walk _ _ _ _ _ (count-is told) (c .before .if1 .left))
 
+cast-points : tie.Need-cast-points Inv-points μ-points
+cast-points c = search needs
+
 int-to-float-interpolate : tie.Need-int-to-float-interpolate Inv-points μ-points
-int-to-float-interpolate c = exact _ (omega arith)
+int-to-float-interpolate c = search needs
 
 interpolate-requires : tie.Need-interpolate-requires Inv-points μ-points
 interpolate-requires c κs = search needs
@@ -96,6 +99,7 @@ hits-spec =
     returns-2
     int-to-float-whole
     points-holds
+    cast-points
     int-to-float-interpolate
     interpolate-requires
     covers-requires-2

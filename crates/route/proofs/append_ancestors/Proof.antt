@@ -1,14 +1,12 @@
 -- `route::append_ancestors` meets its contract.
-use Prim.Native.Nat.{ℕ, _+_, _-_, _*_, _≤_, _<_}
+use Prim.Native.Nat.{_+_, _-_, _*_, _≤_, _<_}
 use mathlib.Core.List.{List, [], _∷_, _++_}
 use mathlib.Core.Path.{_≡_, refl, sym, _∙_, ap}
 use native.Mathlib.Omega.{arith}
-use borrow.Author.Needs.{needs}
 use denote.Ref.{now}
 use lib.ListN.{length, getD, take, drop, length-append, take-append-drop}
-use lib.Ieee.{Float}
 use Rattle.state.specs.declared.State.{State}
-use Rattle.tree.specs.Table.{Nodes, nodesIn, stateAt, parentAt, rowAt}
+use Rattle.tree.specs.Table.{Nodes, nodesIn, stateAt, parentAt}
 use Rattle.route.specs.Path.{ancestorsOf, upwardsOf}
 use Rattle.route.specs.Written.{flatOf, putOf}
 use Rattle.route.proofs.Upwards.{placed-behind, up-starts, up-one, up-ends, up-out}

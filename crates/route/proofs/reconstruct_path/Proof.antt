@@ -1,11 +1,10 @@
 -- `route::reconstruct_path` meets its contract.
-use Prim.Native.Nat.{ℕ, _+_, _-_, _*_, _≤_, _<_}
-use mathlib.Core.List.{List}
-use mathlib.Core.Path.{_≡_, refl, sym, _∙_, ap}
+use Prim.Native.Nat.{_-_, _*_, _≤_, _<_}
+use mathlib.Core.Path.{_≡_, refl, sym, _∙_}
 use native.Mathlib.Omega.{arith}
 use borrow.Author.Needs.{needs}
 use denote.Ref.{now}
-use lib.ListN.{length, getD}
+use lib.ListN.{length}
 use Rattle.tree.specs.Table.{Nodes, nodesIn}
 use Rattle.route.specs.Path.{pathOf}
 use Rattle.route.proofs.Back.{Behind, back-starts, parent-node, back-turn, back-ends}

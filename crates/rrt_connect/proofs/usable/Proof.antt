@@ -1,5 +1,5 @@
 -- `rrt_connect::usable` meets its contract.
-use mathlib.Core.Path.{_≡_, sym, _∙_}
+use mathlib.Core.Path.{sym, _∙_}
 use borrow.Author.Needs.{needs}
 use Rattle.rrt_connect.proofs.Views.{usable-yes, usable-no}
 use Rattle.rrt_connect.proofs.usable.Statement.{statement}

@@ -1,14 +1,13 @@
 -- `rrt_run::run` meets its contract.
-use Prim.Native.Nat.{ℕ, _+_, _-_, _*_, _^_, _≤_, _<_}
+use Prim.Native.Nat.{_+_, _-_, _^_, _≤_, _<_}
 use mathlib.Core.Bool.{Bool, true, false}
-use mathlib.Core.List.{List, []}
+use mathlib.Core.List.{List}
 use mathlib.Core.Logic.{⊎-elim}
 use mathlib.Core.Path.{_≡_, refl, sym, _∙_, ap, subst}
 use native.Mathlib.Omega.{arith}
 use borrow.Author.Needs.{needs}
 use denote.Ref.{now}
-use lib.ListN.{length, drop, length-set}
-use lib.Ieee.{Float}
+use lib.ListN.{length, drop}
 use Rattle.laws.specs.Rest.{mapped}
 use Rattle.answer.specs.declared.Answer.the-variants.{Done, SamplesEnded, Full}
 use Rattle.state.specs.Satisfied.{satisfiedOf}
@@ -16,7 +15,7 @@ use Rattle.keep_out.specs.declared.KeepOut.{KeepOut}
 use Rattle.columns.specs.Columns.{columnsOf}
 use Rattle.samples.specs.Samples.{samplesOf}
 use Rattle.samples.proofs.Threes.{fewer}
-use Rattle.tree.specs.Table.{Nodes, nodesIn, nodesOf}
+use Rattle.tree.specs.Table.{Nodes, nodesOf}
 use Rattle.tree.specs.declared.Tree.{Tree}
 use Rattle.tree.proofs.Append.{Sized, putOf, put-sized}
 use Rattle.route.specs.Path.{pathOf}

@@ -13,15 +13,15 @@ use Rattle.search.proofs.connect.Statement.{statement}
 use Rattle.search.proofs.connect.Tie as tie
 
 abbrev Inv-milestones : tie.InvT-milestones
-Inv-milestones limits segment kinds numbers keep-outs radius start az el feed count marks₀ order₀ from₀ n₀ v₀ marks order from n v =
+Inv-milestones limits segment kinds numbers keep-outs radius start az el feed count marks₀ seen₀ order₀ from₀ n₀ v₀ marks seen order from n v =
     (v ≤ count)
-    × Pushing (λ (j : ℕ). joinedOf limits segment (columnsOf kinds numbers keep-outs) radius start (stateIn az el feed j)) count 0 order₀ from₀ 0 v marks order from n
+    × Pushing (λ (j : ℕ). joinedOf limits segment (columnsOf kinds numbers keep-outs) radius start (stateIn az el feed j)) count 0 order₀ from₀ 0 v marks seen order from n
 
 abbrev μ-milestones : tie.MeasureT-milestones
-μ-milestones limits segment kinds numbers keep-outs radius start az el feed count marks₀ order₀ from₀ n₀ v₀ marks order from n v = count - v
+μ-milestones limits segment kinds numbers keep-outs radius start az el feed count marks₀ seen₀ order₀ from₀ n₀ v₀ marks seen order from n v = count - v
 
 milestones-holds : tie.Need-milestones-holds Inv-milestones μ-milestones
-milestones-holds c = (omega arith, pushing-starts _ _ _ _ _ _ _ (c .pre .1))
+milestones-holds c = (omega arith, pushing-starts _ _ _ _ _ _ _ _ (c .pre .1))
 
 mul-if1 : tie.Need-mul-if1 Inv-milestones μ-milestones
 mul-if1 c = omega arith
@@ -29,17 +29,17 @@ mul-if1 c = omega arith
 element-copy-out-if1 : tie.Need-element-copy-out-if1 Inv-milestones μ-milestones
 element-copy-out-if1 c = omega arith
 
-mul-t23 : tie.Need-mul-t23 Inv-milestones μ-milestones
-mul-t23 c = omega arith
+mul-t24 : tie.Need-mul-t24 Inv-milestones μ-milestones
+mul-t24 c = omega arith
 
-element-copy-out-t26 : tie.Need-element-copy-out-t26 Inv-milestones μ-milestones
-element-copy-out-t26 c = omega arith
+element-copy-out-t27 : tie.Need-element-copy-out-t27 Inv-milestones μ-milestones
+element-copy-out-t27 c = omega arith
 
-mul-t27 : tie.Need-mul-t27 Inv-milestones μ-milestones
-mul-t27 c = omega arith
+mul-t28 : tie.Need-mul-t28 Inv-milestones μ-milestones
+mul-t28 c = omega arith
 
-element-copy-out-t30 : tie.Need-element-copy-out-t30 Inv-milestones μ-milestones
-element-copy-out-t30 c = omega arith
+element-copy-out-t31 : tie.Need-element-copy-out-t31 Inv-milestones μ-milestones
+element-copy-out-t31 c = omega arith
 
 distance-requires : tie.Need-distance-requires Inv-milestones μ-milestones
 distance-requires c κs = search needs
@@ -49,8 +49,9 @@ accepts-requires c κs = search needs
 
 push-requires : tie.Need-push-requires Inv-milestones μ-milestones
 push-requires c κs =
-    let h = c .before .before .before .before .before .before .before .before .before .before .before in
-    (omega arith, omega arith, h .milestones .inv .1 .queue)
+    let turn = c .before .before .before .before .before .before .before .before .before .before .before in
+    let h = turn .before in
+    (turn .milestones-test .taken, h .before .pre .0, h .milestones .inv .1 .queue)
 
 add-v : tie.Need-add-v Inv-milestones μ-milestones
 add-v c = omega arith
@@ -67,11 +68,11 @@ milestones-again c =
     let far = c .before .distance .ensures in (
       omega arith,
       ⊎-elim
-          (λ w. rw (w .7, w .8, w .9, w .10) (pushing-took h l (joined-near _ _ _ _ _ _ _ far _ (w .1 .ensures) (w .0 .taken) ∙ w .2 .taken) (w .6 .ensures)))
+          (λ w. rw (w .8, w .9, w .10, w .11, w .12) (pushing-took h l (joined-near _ _ _ _ _ _ _ far _ (w .1 .ensures) (w .0 .taken) ∙ w .2 .taken) (w .7 .ensures)))
           (λ w.
           ⊎-elim
-          (λ v. pushing-passed h l (joined-near _ _ _ _ _ _ _ far _ (v .1 .ensures) (v .0 .taken) ∙ v .2 .left) (v .3) (v .4) (v .5) (v .6))
-          (λ v. pushing-passed h l (joined-far _ _ _ _ _ _ _ far (v .0 .left)) (v .1) (v .2) (v .3) (v .4)) w) (c .if1 .came),
+          (λ v. pushing-passed h l (joined-near _ _ _ _ _ _ _ far _ (v .1 .ensures) (v .0 .taken) ∙ v .2 .left) (v .3) (v .4) (v .5) (v .6) (v .7))
+          (λ v. pushing-passed h l (joined-far _ _ _ _ _ _ _ far (v .0 .left)) (v .1) (v .2) (v .3) (v .4) (v .5)) w) (c .if1 .came),
     )
 
 returns : tie.Need-returns Inv-milestones μ-milestones
@@ -86,10 +87,10 @@ connect-spec =
     milestones-holds
     mul-if1
     element-copy-out-if1
-    mul-t23
-    element-copy-out-t26
-    mul-t27
-    element-copy-out-t30
+    mul-t24
+    element-copy-out-t27
+    mul-t28
+    element-copy-out-t31
     distance-requires
     accepts-requires
     push-requires

@@ -29,17 +29,17 @@ use Rattle.search.proofs.find_route.Statement.{statement}
 use Rattle.search.proofs.find_route.Tie as tie
 
 abbrev Inv-queue : tie.InvT-queue
-Inv-queue radius start goal route₀ map rows held count marks₀ order₀ from₀ n₀ p₀ route marks order from n p =
+Inv-queue radius start goal route₀ map rows held count marks₀ seen₀ order₀ from₀ n₀ p₀ route marks seen order from n p =
     (route ≡ route₀) × (count ≡ min (map .count) 256)
-    × Seeking goal (map .az) (map .el) (map .feed) (map .legs) count (queueOf order₀ from₀ n₀) marks order from n p
+    × Seeking goal (map .az) (map .el) (map .feed) (map .legs) count (queueOf order₀ from₀ n₀) marks seen order from n p
 
 abbrev μ-queue : tie.MeasureT-queue
-μ-queue radius start goal route₀ map rows held count marks₀ order₀ from₀ n₀ p₀ route marks order from n p = 256 - p
+μ-queue radius start goal route₀ map rows held count marks₀ seen₀ order₀ from₀ n₀ p₀ route marks seen order from n p = 256 - p
 
 -- the loop's head: what the query is, from the queue of the start connections
 module _ (h : tie.At-queue Inv-queue μ-queue) where
   abbrev joined : tie.Joined1 Inv-queue μ-queue
-  joined = h .before .before .before .before .before .before .before .before .before .before .before .before
+  joined = h .before .before .before .before .before .before .before .before .before .before .before .before .before
 
   abbrev args : tie.Start Inv-queue μ-queue
   args = joined .before .before .before
@@ -91,15 +91,15 @@ of-requires c κs = search needs
 
 connect-requires : tie.Need-connect-requires Inv-queue μ-queue
 connect-requires c κs =
-    let joined = c .before .before .before .before .before .before .before .before .before .before in
+    let joined = c .before .before .before .before .before .before .before .before .before .before .before in
     let most : joined .if1 .count ≤ 256 = ⊎-elim (λ w. omega arith) (λ w. omega arith) (joined .if1 .came) in
     (most, no-queue _)
 
 queue-holds : tie.Need-queue-holds Inv-queue μ-queue
 queue-holds c =
-    let joined = c .before .before .before .before .before .before .before .before .before .before .before in
+    let joined = c .before .before .before .before .before .before .before .before .before .before .before .before in
     let most : joined .if1 .count ≡ min (joined .before .before .before .args .t5 .count) 256 = ⊎-elim (λ w. omega arith) (λ w. omega arith) (joined .if1 .came) in
-    (refl, most, seeking-starts _ _ _ _ _ _ _ _ _ _ (c .connect .ensures .queue))
+    (refl, most, seeking-starts _ _ _ _ _ _ _ _ _ _ _ (c .connect .ensures .queue))
 
 mul-u : tie.Need-mul-u Inv-queue μ-queue
 mul-u c = omega (arith, few (c .before .queue .inv .2))
@@ -107,23 +107,23 @@ mul-u c = omega (arith, few (c .before .queue .inv .2))
 array-read-u : tie.Need-array-read-u Inv-queue μ-queue
 array-read-u c = omega (arith, few (c .before .queue .inv .2))
 
-mul-t31 : tie.Need-mul-t31 Inv-queue μ-queue
-mul-t31 c = omega (arith, small c)
+mul-t33 : tie.Need-mul-t33 Inv-queue μ-queue
+mul-t33 c = omega (arith, small c)
 
-element-copy-out-t37 : tie.Need-element-copy-out-t37 Inv-queue μ-queue
-element-copy-out-t37 c = small c
+element-copy-out-t39 : tie.Need-element-copy-out-t39 Inv-queue μ-queue
+element-copy-out-t39 c = small c
 
-mul-t34 : tie.Need-mul-t34 Inv-queue μ-queue
-mul-t34 c = omega (arith, small (c .before))
+mul-t36 : tie.Need-mul-t36 Inv-queue μ-queue
+mul-t36 c = omega (arith, small (c .before))
 
-element-copy-out-t40 : tie.Need-element-copy-out-t40 Inv-queue μ-queue
-element-copy-out-t40 c = small (c .before)
+element-copy-out-t42 : tie.Need-element-copy-out-t42 Inv-queue μ-queue
+element-copy-out-t42 c = small (c .before)
 
-mul-t41 : tie.Need-mul-t41 Inv-queue μ-queue
-mul-t41 c = omega (arith, small (c .before .before))
+mul-t43 : tie.Need-mul-t43 Inv-queue μ-queue
+mul-t43 c = omega (arith, small (c .before .before))
 
-element-copy-out-t44 : tie.Need-element-copy-out-t44 Inv-queue μ-queue
-element-copy-out-t44 c = small (c .before .before)
+element-copy-out-t46 : tie.Need-element-copy-out-t46 Inv-queue μ-queue
+element-copy-out-t46 c = small (c .before .before)
 
 is-satisfied-requires : tie.Need-is-satisfied-requires Inv-queue μ-queue
 is-satisfied-requires c κs = search needs
@@ -159,33 +159,33 @@ returns c =
 
 add-spread : tie.Need-add-spread Inv-queue μ-queue
 add-spread c =
-    let turn = c .before .before .before .before .before .before .before .before .before .before in
+    let turn = c .before .before .before .before .before .before .before .before .before .before .before in
     omega (arith, few (turn .before .queue .inv .2))
 
 spread-requires : tie.Need-spread-requires Inv-queue μ-queue
 spread-requires c κs =
-    let turn = c .before .before .before .before .before .before .before .before .before .before in
+    let turn = c .before .before .before .before .before .before .before .before .before .before .before in
     let h = turn .before .queue in
     (small turn, omega (arith, h .inv .1), h .inv .2 .queue)
 
 add-p : tie.Need-add-p Inv-queue μ-queue
 add-p c =
-    let turn = c .before .before .before .before .before .before .before .before .before .before .before in
+    let turn = c .before .before .before .before .before .before .before .before .before .before .before .before in
     omega (arith, few (turn .before .queue .inv .2))
 
 queue-less : tie.Need-queue-less Inv-queue μ-queue
 queue-less c =
-    let turn = c .before .before .before .before .before .before .before .before .before .before .before in
+    let turn = c .before .before .before .before .before .before .before .before .before .before .before .before in
     omega (arith, few (turn .before .queue .inv .2))
 
 queue-again : tie.Need-queue-again Inv-queue μ-queue
 unfolding stateIn
 queue-again c =
-    let tested = c .before .before .before .before .before .before .before in
+    let missed = c .before .before .before .before .before .before .before in
+    let tested = missed .before in
     let turn = tested .before .before .before .before in
     let h = turn .before .queue in
-    let missed = c .before .before .before .before .before .before .if2 .left in
-    (h .inv .0, h .inv .1, seeking-next (h .inv .2) (turn .queue-test .taken) (tested .is-satisfied .ensures) missed (c .spread .ensures))
+    (h .inv .0, h .inv .1, seeking-next (h .inv .2) (turn .queue-test .taken) (tested .is-satisfied .ensures) (missed .if2 .left) (c .spread .ensures))
 
 same-length-2 : tie.Need-same-length-2 Inv-queue μ-queue
 same-length-2 c = ap length (c .before .queue .inv .0)
@@ -211,12 +211,12 @@ find-route-spec =
     queue-holds
     mul-u
     array-read-u
-    mul-t31
-    element-copy-out-t37
-    mul-t34
-    element-copy-out-t40
-    mul-t41
-    element-copy-out-t44
+    mul-t33
+    element-copy-out-t39
+    mul-t36
+    element-copy-out-t42
+    mul-t43
+    element-copy-out-t46
     is-satisfied-requires
     write-requires
     same-length

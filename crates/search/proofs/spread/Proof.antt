@@ -4,48 +4,50 @@ use mathlib.Core.Bool.{true}
 use mathlib.Core.Path.{_≡_}
 use native.Mathlib.Omega.{arith}
 use borrow.Author.Needs.{needs}
-use Rattle.legs.specs.Bits.{legAt}
-use Rattle.search.proofs.Pushing.{Pushing, pushing-starts, pushing-took, pushing-next, pushing-ends}
+use Rattle.legs.specs.Bits.{legAt, unseenAt}
+use Rattle.search.proofs.Pushing.{and-left, Pushing, pushing-starts, pushing-took, pushing-next, pushing-ends}
 use Rattle.search.proofs.spread.Statement.{statement}
 use Rattle.search.proofs.spread.Tie as tie
 
 abbrev Inv-neighbours : tie.InvT-neighbours
-Inv-neighbours legs u count marks₀ order₀ from₀ held f n₀ v₀ marks order from n v =
-    Pushing (legAt legs u) count f order₀ from₀ held v marks order from n × (v ≤ 256) × (v < 256 → legAt legs u v ≡ true)
+Inv-neighbours legs u count marks₀ seen₀ order₀ from₀ held f n₀ v₀ marks seen order from n v =
+    Pushing (legAt legs u) count f order₀ from₀ held v marks seen order from n × (v ≤ 256) × (v < 256 → legAt legs u v ≡ true)
 
 abbrev μ-neighbours : tie.MeasureT-neighbours
-μ-neighbours legs u count marks₀ order₀ from₀ held f n₀ v₀ marks order from n v = 256 - v
+μ-neighbours legs u count marks₀ seen₀ order₀ from₀ held f n₀ v₀ marks seen order from n v = 256 - v
 
-next-requires : tie.Need-next-requires Inv-neighbours μ-neighbours
-next-requires c κs = search needs
+next-unseen-requires : tie.Need-next-unseen-requires Inv-neighbours μ-neighbours
+next-unseen-requires c κs = search needs
 
 neighbours-holds : tie.Need-neighbours-holds Inv-neighbours μ-neighbours
+unfolding unseenAt
 neighbours-holds c =
-    let first = c .next .ensures in
-    (pushing-next (pushing-starts _ _ _ _ _ _ _ (c .before .pre .2)) first, first .within, first .here)
+    let first = c .next-unseen .ensures in
+    (pushing-next (pushing-starts _ _ _ _ _ _ _ _ (c .before .before .pre .2)) first, first .within, λ h. and-left _ _ (first .here h))
 
 push-requires : tie.Need-push-requires Inv-neighbours μ-neighbours
 push-requires c κs =
-    let turn = c .before .before .before in
+    let turn = c .before .before .before .before in
     (omega arith, omega arith, turn .before .neighbours .inv .0 .queue)
 
-add-next : tie.Need-add-next Inv-neighbours μ-neighbours
-add-next c = omega arith
+add-next-unseen : tie.Need-add-next-unseen Inv-neighbours μ-neighbours
+add-next-unseen c = omega arith
 
-next-requires-2 : tie.Need-next-requires-2 Inv-neighbours μ-neighbours
-next-requires-2 c κs = (omega arith, omega arith)
+next-unseen-requires-2 : tie.Need-next-unseen-requires-2 Inv-neighbours μ-neighbours
+next-unseen-requires-2 c κs = (omega arith, omega arith)
 
 neighbours-less : tie.Need-neighbours-less Inv-neighbours μ-neighbours
-neighbours-less c = omega (arith, c .next2 .ensures .onward)
+neighbours-less c = omega (arith, c .next-unseen2 .ensures .onward)
 
 neighbours-again : tie.Need-neighbours-again Inv-neighbours μ-neighbours
+unfolding unseenAt
 neighbours-again c =
-    let turn = c .before .before .before .before .before in
+    let turn = c .before .before .before .before .before .before .before in
     let h = turn .before .neighbours in
-    let following = c .next2 .ensures in (
-      pushing-next (pushing-took (h .inv .0) (turn .neighbours-test .taken) (h .inv .2 (omega arith)) (c .before .push .ensures)) following,
+    let following = c .next-unseen2 .ensures in (
+      pushing-next (pushing-took (h .inv .0) (turn .neighbours-test .taken) (h .inv .2 (omega arith)) (c .before .before .push .ensures)) following,
       following .within,
-      following .here,
+      λ k. and-left _ _ (following .here k),
     )
 
 returns : tie.Need-returns Inv-neighbours μ-neighbours
@@ -57,11 +59,11 @@ spread-spec =
     (tie.spec
     Inv-neighbours
     μ-neighbours
-    next-requires
+    next-unseen-requires
     neighbours-holds
     push-requires
-    add-next
-    next-requires-2
+    add-next-unseen
+    next-unseen-requires-2
     neighbours-less
     neighbours-again
     returns)

@@ -1,13 +1,10 @@
 -- `tree::nearest` meets its contract.
 use mathlib.Core.Logic.{⊎-elim}
-use mathlib.Core.Path.{_≡_, refl, sym, _∙_, ap}
+use mathlib.Core.Path.{_≡_, sym, _∙_}
 use native.Mathlib.Omega.{arith}
-use borrow.Author.Needs.{needs}
-use Prim.Native.Nat.{ℕ, _≤_, _<_, _-_, _+_, min}
-use lib.Ieee.{Float}
-use Rattle.tree.specs.declared.Near.{Near}
-use Rattle.tree.specs.Table.{rowsOf, statesOf}
-use Rattle.tree.specs.Nearest.{farOf, nearestFrom, nearestOf}
+use Prim.Native.Nat.{_≤_, _-_, _+_, min}
+use Rattle.tree.specs.Table.{statesOf}
+use Rattle.tree.specs.Nearest.{farOf, nearestOf}
 use Rattle.tree.proofs.Nearer.{next, last, nowhere, took, kept}
 use Rattle.tree.proofs.Blocks.{Held, held-first, held-kept, held-won, held-as, held-on, held-here, searchAt}
 use Rattle.tree.proofs.nearest.Statement.{statement}

@@ -1,5 +1,5 @@
 -- `tree::node_at` meets its contract.
-use Prim.Native.Nat.{_<_, min}
+use Prim.Native.Nat.{min}
 use mathlib.Core.Logic.{⊎-elim}
 use mathlib.Core.Path.{_≡_}
 use native.Mathlib.Omega.{arith}

@@ -1,5 +1,5 @@
 -- `columns::Columns::of` meets its contract.
-use Prim.Native.Nat.{ℕ, _≤_, _<_, _-_, _+_, _*_, min}
+use Prim.Native.Nat.{ℕ, _≤_, _<_, _-_, _*_, min}
 use mathlib.Core.Logic.{⊎-elim}
 use mathlib.Core.Path.{_≡_, refl, _∙_}
 use native.Mathlib.Omega.{arith}

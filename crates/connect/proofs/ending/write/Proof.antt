@@ -1,9 +1,7 @@
 -- `connect::ending::write` meets its contract.
 use Prim.Native.Nat.{_≤_}
 use native.Mathlib.Omega.{arith}
-use mathlib.Core.Path.{_≡_, refl, sym, _∙_}
 use denote.Ref.{now}
-use lib.ListN.{length}
 use Rattle.tree.specs.Table.{nodesIn}
 use Rattle.tree.proofs.Append.{states-length}
 use Rattle.connect.specs.Turn.{columnsAt}

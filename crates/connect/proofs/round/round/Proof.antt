@@ -1,8 +1,7 @@
 -- `connect::round::round` meets its contract.
-use mathlib.Core.Path.{_≡_, refl}
+use mathlib.Core.Path.{refl}
 use denote.Ref.{now}
-use Rattle.tree.specs.Table.{nodesIn}
-use Rattle.connect.specs.Turn.{Holds, columnsAt}
+use Rattle.connect.specs.Turn.{columnsAt}
 use Rattle.connect.specs.Round.{treesAt}
 use Rattle.connect.proofs.Rounding.{round-planted, round-start, round-goal}
 use borrow.Author.Needs.{needs}

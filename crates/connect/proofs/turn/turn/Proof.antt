@@ -3,7 +3,7 @@ use denote.Ref.{now}
 use Rattle.tree.specs.Table.{nodesIn}
 use Rattle.connect.specs.Turn.{columnsAt, Holds}
 use mathlib.Core.Logic.{⊎-elim}
-use mathlib.Core.Path.{_≡_, refl, sym, _∙_}
+use mathlib.Core.Path.{refl, sym, _∙_}
 use Rattle.laws.specs.Cases.{and-true, and-left, and-right}
 use Rattle.connect.proofs.Turning.{turn-refused, turn-full, turn-goal, turn-connected}
 use borrow.Author.Needs.{needs}

@@ -2,12 +2,13 @@
 use borrow.Author.Needs.{needs}
 use Rattle.prm.specs.Construct.{constructedOf}
 use Rattle.prm.specs.Query.{queriedOf}
+use Rattle.host.specs.Park.{buildOf}
 use Rattle.host.proofs.Chart.{chart-done, chart-refused}
 use Rattle.host.proofs.charting.chart.Statement.{statement}
 use Rattle.host.proofs.charting.chart.Tie as tie
 
-construct-roadmap-requires : tie.Need-construct-roadmap-requires
-construct-roadmap-requires c κs = search needs
+build-requires : tie.Need-build-requires
+build-requires c κs = search needs
 
 number-requires : tie.Need-number-requires
 number-requires c κs = search needs
@@ -26,21 +27,21 @@ returns c =
     let asked = c .before .before .before in
     let test = asked .before .before in
     let number = test .before in
-    let build = number .before .construct-roadmap in
-    chart-done _ _ _ _ (constructedOf (build .result)) (build .ensures) _ (number .number .ensures) (test .if1 .taken) (queriedOf (asked .ask .result) _)
+    let built = number .before .build in
+    chart-done (buildOf _ _ _ _) _ _ _ _ (constructedOf (built .result)) (built .ensures) _ (number .number .ensures) (test .if1 .taken) (queriedOf (asked .ask .result) _)
     (asked .ask .ensures) _ (c .number2 .ensures)
 
 returns-2 : tie.Need-returns-2
 returns-2 c =
     let number = c .before in
-    let build = number .before .construct-roadmap in
-    chart-refused _ _ _ _ (constructedOf (build .result)) (build .ensures) _ (number .number .ensures) (c .if1 .left)
+    let built = number .before .build in
+    chart-refused (buildOf _ _ _ _) _ _ _ _ (constructedOf (built .result)) (built .ensures) _ (number .number .ensures) (c .if1 .left)
 
 pub chart-spec : {M : Type 1} → statement M
 chart-spec =
     tie.close
     (tie.spec
-    construct-roadmap-requires
+    build-requires
     number-requires
     ask-requires
     number-requires-2

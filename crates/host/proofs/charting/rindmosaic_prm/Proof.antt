@@ -2,6 +2,7 @@
 use denote.Ref.{now}
 use borrow.Author.Needs.{needs}
 use Rattle.prm.specs.Planner.{answeredOf}
+use Rattle.host.specs.Park.{buildOf}
 use Rattle.host.specs.Chart.{chartOf, prmTold, prmCall}
 use Rattle.host.proofs.Calls.{call-unknown, call-refused, call-reported}
 use Rattle.host.proofs.charting.rindmosaic_prm.Statement.{statement}
@@ -19,14 +20,14 @@ goal-in-requires c κs = search needs
 table-of-requires : tie.Need-table-of-requires
 table-of-requires c κs = search needs
 
-element-copy-out-t19 : tie.Need-element-copy-out-t19
-element-copy-out-t19 c = search needs
+element-copy-out-t20 : tie.Need-element-copy-out-t20
+element-copy-out-t20 c = search needs
 
-element-copy-out-t19-2 : tie.Need-element-copy-out-t19-2
-element-copy-out-t19-2 c = search needs
+element-copy-out-t20-2 : tie.Need-element-copy-out-t20-2
+element-copy-out-t20-2 c = search needs
 
-are-known-requires : tie.Need-are-known-requires
-are-known-requires c κs = search needs
+are-known-with-requires : tie.Need-are-known-with-requires
+are-known-with-requires c κs = search needs
 
 new-requires : tie.Need-new-requires
 new-requires c κs = search needs
@@ -53,7 +54,7 @@ returns c =
     let table = known .before .before .before in
     let goal = table .before in
     let is = rw (goal .goal-in .ensures, goal .before .start-in .ensures, goal .before .before .limits-in .ensures) at (made .setup .ensures) in
-    call-reported (chartOf _) (prmTold (now (goal .before .before .before .before .before .args .setup))) _ _ _ _ _ _ (table .table-of .ensures) _ (known .are-known .ensures) (made .before .before .if1 .taken) _ (made .before .new .ensures)
+    call-reported (chartOf (buildOf _ _ _ _) _) (prmTold (now (goal .before .before .before .before .before .args .setup))) _ _ _ _ _ _ (table .table-of .ensures) _ (known .are-known-with .ensures) (made .before .before .if1 .taken) _ (made .before .new .ensures)
     (answeredOf (made .setup .result)) is _ (number .number .ensures) (chart .before .before .if2 .taken) _ _ (chart .chart .ensures)
 
 refused-requires : tie.Need-refused-requires
@@ -68,7 +69,7 @@ returns-2 c =
     let table = known .before .before .before in
     let goal = table .before in
     let is = rw (goal .goal-in .ensures, goal .before .start-in .ensures, goal .before .before .limits-in .ensures) at (made .setup .ensures) in
-    call-refused (chartOf _) (prmTold (now (goal .before .before .before .before .before .args .setup))) _ _ _ _ _ _ (table .table-of .ensures) _ (known .are-known .ensures) (made .before .before .if1 .taken) _ (made .before .new .ensures)
+    call-refused (chartOf (buildOf _ _ _ _) _) (prmTold (now (goal .before .before .before .before .before .args .setup))) _ _ _ _ _ _ (table .table-of .ensures) _ (known .are-known-with .ensures) (made .before .before .if1 .taken) _ (made .before .new .ensures)
     (answeredOf (made .setup .result)) is _ (number .number .ensures) (c .before .if2 .left) _ (c .refused .ensures)
 
 refused-requires-2 : tie.Need-refused-requires-2
@@ -79,7 +80,7 @@ unfolding prmCall
 returns-3 c =
     let known = c .before .before in
     let table = known .before .before .before in
-    call-unknown (chartOf _) (prmTold (now (table .before .before .before .before .before .before .args .setup))) _ _ _ _ _ _ (table .table-of .ensures) _ (known .are-known .ensures) (c .before .if1 .left) _ (c .refused2 .ensures)
+    call-unknown (chartOf (buildOf _ _ _ _) _) (prmTold (now (table .before .before .before .before .before .before .args .setup))) _ _ _ _ _ _ (table .table-of .ensures) _ (known .are-known-with .ensures) (c .before .if1 .left) _ (c .refused2 .ensures)
 
 pub rindmosaic-prm-spec : {M : Type 1} → statement M
 rindmosaic-prm-spec =
@@ -89,9 +90,9 @@ rindmosaic-prm-spec =
     start-in-requires
     goal-in-requires
     table-of-requires
-    element-copy-out-t19
-    element-copy-out-t19-2
-    are-known-requires
+    element-copy-out-t20
+    element-copy-out-t20-2
+    are-known-with-requires
     new-requires
     setup-requires
     number-requires

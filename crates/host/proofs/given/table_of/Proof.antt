@@ -1,6 +1,6 @@
 -- `host::given::table_of` meets its contract.
-use Prim.Native.Nat.{ℕ, _≤_, _<_, _-_, _+_, min}
-use mathlib.Core.Path.{_≡_, refl, sym, _∙_, ap}
+use Prim.Native.Nat.{ℕ, _≤_, _<_, _-_, min}
+use mathlib.Core.Path.{_≡_, refl, _∙_, ap}
 use native.Mathlib.Omega.{arith}
 use borrow.Author.Needs.{needs}
 use lib.ListN.{length, length-set}

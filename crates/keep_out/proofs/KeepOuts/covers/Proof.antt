@@ -1,7 +1,7 @@
 -- `keep_out::KeepOuts::covers` meets its contract.
-use Prim.Native.Nat.{ℕ, _≤_, _-_, _+_, min}
-use mathlib.Core.Bool.{Bool, true, false}
-use mathlib.Core.List.{List, [], _∷_, map}
+use Prim.Native.Nat.{_≤_, _-_, _+_, min}
+use mathlib.Core.Bool.{Bool}
+use mathlib.Core.List.{List, _∷_, map}
 use mathlib.Core.Logic.{⊎-elim}
 use mathlib.Core.Path.{_≡_, refl, sym, _∙_, ap}
 use native.Mathlib.Omega.{arith}

@@ -1,6 +1,5 @@
 -- `keep_out::KeepOuts::with` meets its contract.
 use borrow.Author.Tests.{lt-ltb, le-ltb}
-use Rattle.laws.specs.Cases.{cases}
 use Rattle.keep_out.specs.Table.{withOf}
 use borrow.Author.Needs.{needs}
 use Rattle.keep_out.proofs.KeepOuts.with.Statement.{statement}

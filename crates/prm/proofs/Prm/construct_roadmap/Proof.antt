@@ -1,5 +1,5 @@
 -- `prm::Prm::construct_roadmap` meets its contract.
-use mathlib.Core.Path.{_≡_, sym, _∙_}
+use mathlib.Core.Path.{sym, _∙_}
 use Rattle.prm.proofs.Constructs.{construct-unset, construct-bad, construct-done}
 use borrow.Author.Needs.{needs}
 use Rattle.prm.proofs.Prm.construct_roadmap.Statement.{statement}

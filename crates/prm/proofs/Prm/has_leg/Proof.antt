@@ -1,5 +1,5 @@
 -- `prm::Prm::has_leg` meets its contract.
-use mathlib.Core.Path.{_≡_, _∙_}
+use mathlib.Core.Path.{_∙_}
 use Rattle.prm.proofs.Views.{leg-set, leg-unset}
 use borrow.Author.Needs.{needs}
 use Rattle.prm.proofs.Prm.has_leg.Statement.{statement}

@@ -1,5 +1,5 @@
 -- `prm::Prm::milestone` meets its contract.
-use mathlib.Core.Path.{_≡_, _∙_}
+use mathlib.Core.Path.{_∙_}
 use Rattle.prm.proofs.Views.{milestone-set, milestone-unset}
 use borrow.Author.Needs.{needs}
 use Rattle.prm.proofs.Prm.milestone.Statement.{statement}

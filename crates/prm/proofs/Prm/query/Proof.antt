@@ -1,5 +1,5 @@
 -- `prm::Prm::query` meets its contract.
-use mathlib.Core.Path.{_≡_, sym, _∙_}
+use mathlib.Core.Path.{sym, _∙_}
 use borrow.Author.Needs.{needs}
 use Rattle.prm.proofs.Queries.{query-unset, query-room, query-unsampled, query-invalid, query-nothing, query-found}
 use Rattle.prm.proofs.Prm.query.Statement.{statement}

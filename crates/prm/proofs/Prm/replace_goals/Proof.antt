@@ -1,5 +1,5 @@
 -- `prm::Prm::replace_goals` meets its contract.
-use mathlib.Core.Path.{_≡_, sym, _∙_}
+use mathlib.Core.Path.{sym, _∙_}
 use Rattle.prm.proofs.Setups.{goals-unset, goals-bad-start, goals-bad-goal, goals-done}
 use borrow.Author.Needs.{needs}
 use Rattle.prm.proofs.Prm.replace_goals.Statement.{statement}

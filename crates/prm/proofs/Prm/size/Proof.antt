@@ -1,5 +1,5 @@
 -- `prm::Prm::size` meets its contract.
-use mathlib.Core.Path.{_≡_, _∙_}
+use mathlib.Core.Path.{_∙_}
 use Rattle.prm.proofs.Views.{size-set, size-unset}
 use borrow.Author.Needs.{needs}
 use Rattle.prm.proofs.Prm.size.Statement.{statement}

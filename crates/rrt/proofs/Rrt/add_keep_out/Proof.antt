@@ -1,5 +1,5 @@
 -- `rrt::Rrt::add_keep_out` meets its contract.
-use mathlib.Core.Path.{_≡_, sym, _∙_}
+use mathlib.Core.Path.{sym, _∙_}
 use borrow.Author.Needs.{needs}
 use Rattle.rrt.proofs.Adds.{add-unset, add-set}
 use Rattle.rrt.proofs.Rrt.add_keep_out.Statement.{statement}

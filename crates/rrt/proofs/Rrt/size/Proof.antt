@@ -1,6 +1,6 @@
 -- `rrt::Rrt::size` meets its contract.
 use Rattle.rrt.proofs.Views.{size-set, size-unset}
-use mathlib.Core.Path.{_≡_, sym, _∙_}
+use mathlib.Core.Path.{sym, _∙_}
 use borrow.Author.Needs.{needs}
 use Rattle.rrt.proofs.Rrt.size.Statement.{statement}
 use Rattle.rrt.proofs.Rrt.size.Tie as tie

@@ -1,5 +1,5 @@
 -- `rrt::Rrt::solve` meets its contract.
-use mathlib.Core.Path.{_≡_, sym, _∙_}
+use mathlib.Core.Path.{sym, _∙_}
 use borrow.Author.Needs.{needs}
 use Rattle.plan.proofs.Usable.{usable-some, usable-most}
 use Rattle.rrt.proofs.Solves.{solve-unset, solve-room, solve-bad, solve-ran}

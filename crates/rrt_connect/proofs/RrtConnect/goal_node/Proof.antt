@@ -1,7 +1,7 @@
 -- `rrt_connect::RrtConnect::goal_node` meets its contract.
 use Rattle.rrt_connect.proofs.Views.{goal-node-set, goal-node-unset}
 use Rattle.tree.specs.Table.{nodesOf}
-use mathlib.Core.Path.{_≡_, sym, _∙_}
+use mathlib.Core.Path.{sym, _∙_}
 use borrow.Author.Needs.{needs}
 use Rattle.rrt_connect.proofs.RrtConnect.goal_node.Statement.{statement}
 use Rattle.rrt_connect.proofs.RrtConnect.goal_node.Tie as tie

@@ -1,6 +1,6 @@
 -- `rrt_connect::RrtConnect::goal_size` meets its contract.
 use Rattle.rrt_connect.proofs.Views.{goal-size-set, goal-size-unset}
-use mathlib.Core.Path.{_≡_, sym, _∙_}
+use mathlib.Core.Path.{sym, _∙_}
 use borrow.Author.Needs.{needs}
 use Rattle.rrt_connect.proofs.RrtConnect.goal_size.Statement.{statement}
 use Rattle.rrt_connect.proofs.RrtConnect.goal_size.Tie as tie

@@ -1,5 +1,5 @@
 -- `rrt_connect::RrtConnect::solve` meets its contract.
-use mathlib.Core.Path.{_≡_, sym, _∙_}
+use mathlib.Core.Path.{sym, _∙_}
 use borrow.Author.Needs.{needs}
 use Rattle.rrt_connect.proofs.Views.{usable-some, usable-most, usable-goal}
 use Rattle.rrt_connect.proofs.Solves.{solve-unset, solve-room, solve-bad, solve-ran}

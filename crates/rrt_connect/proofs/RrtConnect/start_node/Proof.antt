@@ -1,7 +1,7 @@
 -- `rrt_connect::RrtConnect::start_node` meets its contract.
 use Rattle.rrt_connect.proofs.Views.{start-node-set, start-node-unset}
 use Rattle.tree.specs.Table.{nodesOf}
-use mathlib.Core.Path.{_≡_, sym, _∙_}
+use mathlib.Core.Path.{sym, _∙_}
 use borrow.Author.Needs.{needs}
 use Rattle.rrt_connect.proofs.RrtConnect.start_node.Statement.{statement}
 use Rattle.rrt_connect.proofs.RrtConnect.start_node.Tie as tie

@@ -1,6 +1,6 @@
 -- `rrt_connect::RrtConnect::start_size` meets its contract.
 use Rattle.rrt_connect.proofs.Views.{start-size-set, start-size-unset}
-use mathlib.Core.Path.{_≡_, sym, _∙_}
+use mathlib.Core.Path.{sym, _∙_}
 use borrow.Author.Needs.{needs}
 use Rattle.rrt_connect.proofs.RrtConnect.start_size.Statement.{statement}
 use Rattle.rrt_connect.proofs.RrtConnect.start_size.Tie as tie

@@ -1,5 +1,5 @@
 -- `rrt_connect::run::run` meets its contract.
-use Prim.Native.Nat.{ℕ, _+_, _-_, _^_, _≤_, _<_}
+use Prim.Native.Nat.{_+_, _-_, _^_, _≤_, _<_}
 use mathlib.Core.List.{List, []}
 use mathlib.Core.Path.{_≡_, refl, sym, _∙_, ap}
 use native.Mathlib.Omega.{arith}
@@ -12,7 +12,7 @@ use Rattle.keep_out.specs.declared.KeepOut.{KeepOut}
 use Rattle.columns.specs.Columns.{columnsOf}
 use Rattle.samples.specs.Samples.{samplesOf}
 use Rattle.samples.proofs.Threes.{fewer}
-use Rattle.tree.specs.Table.{nodesIn, nodesOf}
+use Rattle.tree.specs.Table.{nodesOf}
 use Rattle.tree.specs.declared.Tree.{Tree}
 use Rattle.route.specs.Written.{writtenOf}
 use Rattle.route.proofs.Stores.{nothing-written}

@@ -1,5 +1,5 @@
 -- `rrt_star::RrtStar::add_keep_out` meets its contract.
-use mathlib.Core.Path.{_≡_, sym, _∙_}
+use mathlib.Core.Path.{sym, _∙_}
 use borrow.Author.Needs.{needs}
 use Rattle.rrt_star.proofs.Adds.{add-unset, add-set}
 use Rattle.rrt_star.proofs.RrtStar.add_keep_out.Statement.{statement}

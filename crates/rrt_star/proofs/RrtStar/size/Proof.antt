@@ -1,6 +1,6 @@
 -- `rrt_star::RrtStar::size` meets its contract.
 use Rattle.rrt_star.proofs.Views.{size-set, size-unset}
-use mathlib.Core.Path.{_≡_, sym, _∙_}
+use mathlib.Core.Path.{sym, _∙_}
 use borrow.Author.Needs.{needs}
 use Rattle.rrt_star.proofs.RrtStar.size.Statement.{statement}
 use Rattle.rrt_star.proofs.RrtStar.size.Tie as tie

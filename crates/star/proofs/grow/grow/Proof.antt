@@ -1,6 +1,4 @@
 -- `star::grow::grow` meets its contract.
-use mathlib.Core.Path.{_≡_, refl, sym, _∙_}
-use native.Mathlib.Omega.{arith}
 use denote.Ref.{now}
 use borrow.Author.Needs.{needs}
 use Rattle.columns.specs.Columns.{columnsOf}

@@ -1,5 +1,5 @@
 -- `state::State::distance` meets its contract.
-use mathlib.Core.Path.{_≡_, refl}
+use mathlib.Core.Path.{refl}
 use lib.Ieee.{lt, ofBits}
 use Rattle.state.specs.Distance.{distanceOf}
 use borrow.Author.Needs.{needs}
