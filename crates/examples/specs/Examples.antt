@@ -44,18 +44,18 @@ use Rattle.connect.specs.Ending.{endPath}
 use Rattle.rrt_connect.specs.Planner as planner
 use Rattle.rrt_connect.specs.Run as run
 use Rattle.rrt_connect.specs.Solve as connect
-use Rattle.rewire.specs.Neighbours.{neighboursFrom, neighboursOf}
-use Rattle.rewire.specs.Parent.{costVia, isBetter, chooseFrom, chooseOf}
+use Rattle.neighbours.specs.Neighbours.{neighboursFrom, neighboursOf}
+use Rattle.choice.specs.Parent.{costVia, isBetter, chooseFrom, chooseOf}
 use Rattle.rewire.specs.Rewiring.{costUnder, moves, rewireOf}
 use Rattle.star.specs.Grow as grow
 use Rattle.star.specs.Grow.{Costed, addedOf, growOf}
-use Rattle.star.specs.Run as star-run
-use Rattle.star.specs.Run.{StarPlan}
+use Rattle.star_run.specs.Run as star-run
+use Rattle.star_run.specs.Run.{StarPlan}
 use Rattle.rrt_star.specs.Planner as star
 use Rattle.rrt_star.specs.Solve as star-solve
 use Rattle.roadmap.specs.Map.{Milestone, milestoneAt, markOf, addOf, flagsOf}
 use Rattle.roadmap.specs.View.{spanOf}
-use Rattle.roadmap.specs.Construct as roadmap
+use Rattle.construct.specs.Construct as roadmap
 use Rattle.search.specs.Search as search
 use Rattle.search.specs.Query as search-query
 use Rattle.prune.specs.Hit.{meetsOf, hitAmong, hitOf}

@@ -20,7 +20,7 @@ use Rattle.rrt_connect.specs.Planner as connect
 use Rattle.connect.specs.Round.{Trees}
 use Rattle.rrt_connect.specs.Solve as connect-solve
 use Rattle.star.specs.Grow.{Costed}
-use Rattle.star.specs.Run.{StarPlan}
+use Rattle.star_run.specs.Run.{StarPlan}
 use Rattle.rrt_star.specs.Planner as star
 use Rattle.rrt_star.specs.Solve as star-solve
 use Rattle.host.specs.Setup.{number, limitsIn, startIn, goalIn}

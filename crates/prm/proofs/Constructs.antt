@@ -7,9 +7,10 @@ use Rattle.answer.specs.declared.Answer.the-variants.{Uninitialised, BadInput}
 use Rattle.keep_out.specs.Table.{keepOutsOf}
 use Rattle.samples.specs.Samples.{goodSamples, samplesOf}
 use Rattle.plan.specs.Plan.{set}
-use Rattle.roadmap.specs.Construct as roadmap
-use Rattle.roadmap.specs.View.{milestonesOf, builtOf}
-use Rattle.roadmap.specs.declared.Built.{Built}
+use Rattle.construct.specs.Construct as roadmap
+use Rattle.roadmap.specs.View.{milestonesOf}
+use Rattle.construct.specs.Construct.{builtOf}
+use Rattle.construct.specs.declared.Built.{Built}
 use Rattle.roadmap.specs.declared.Roadmap.{Roadmap}
 use Rattle.prm.specs.declared.Prm.{Prm}
 use Rattle.prm.specs.Planner.{Given, givenBy, plannerOf}

@@ -7,7 +7,7 @@ use Rattle.answer.specs.declared.Answer.{Answer}
 use Rattle.answer.specs.declared.Answer.the-variants.{Uninitialised, BadInput}
 use Rattle.samples.specs.Samples.{goodSamples, samplesOf}
 use Rattle.plan.specs.Plan.{unset, set}
-use Rattle.roadmap.specs.Construct as roadmap
+use Rattle.construct.specs.Construct as roadmap
 use Rattle.prm.specs.Planner.{View, plannerOf}
 use Rattle.prm.specs.declared.Constructed.{Constructed}
 

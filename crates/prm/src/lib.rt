@@ -130,7 +130,7 @@ impl Prm {
         if self.ready {
             if good {
                 let radius = self.connection_radius.value;
-                let built = roadmap::construct(self.mount, radius, map, samples);
+                let built = construct::construct(self.mount, radius, map, samples);
                 let grown = built.map;
                 let answer = built.answer;
                 let mut planner = self;

@@ -17,8 +17,8 @@ use Rattle.motion.specs.Valid.{validOf}
 use Rattle.roadmap.specs.Keep.{keepOf}
 use Rattle.roadmap.specs.Map.{Milestone}
 use Rattle.roadmap.specs.Closed.{roadmapOf}
-use Rattle.roadmap.specs.Construct.{Constructed, joinedOf, constructOf}
-use Rattle.roadmap.proofs.Closed.{closed, done-fits}
+use Rattle.construct.specs.Construct.{Constructed, joinedOf, constructOf}
+use Rattle.construct.proofs.Closed.{closed, done-fits}
 use Rattle.prune.specs.Hit.{hitOf}
 use Rattle.prune.specs.Prune.{prunedOf, prunedByAll}
 use Rattle.prune.proofs.Keep.{keep-keep, fewer}

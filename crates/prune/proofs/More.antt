@@ -12,7 +12,7 @@ use Rattle.keep_out.specs.declared.KeepOut.{KeepOut}
 use Rattle.motion.specs.Valid.{validOf}
 use Rattle.motion.specs.Points.{Checked, tooMany, points, checkedOf}
 use Rattle.motion.specs.Accepts.{allValid, acceptedOf, acceptsOf}
-use Rattle.roadmap.specs.Construct.{joinedOf}
+use Rattle.construct.specs.Construct.{joinedOf}
 use Rattle.prune.specs.Hit.{meetsOf, hitAmong, hitOf}
 
 or-none : (b : Bool) → b || false ≡ b

@@ -17,7 +17,7 @@ use Rattle.keep_out.specs.declared.KeepOut.{KeepOut}
 use Rattle.motion.specs.Accepts.{acceptsOf}
 use Rattle.tree.specs.Table.{rowAt, statesOf}
 use Rattle.tree.proofs.Append.{state-is}
-use Rattle.rewire.specs.declared.Choice.{Choice}
+use Rattle.choice.specs.declared.Choice.{Choice}
 use Rattle.rewire.specs.Rewiring.{Links, costUnder, moves, rewireOf, linksIn, Rewires}
 
 module _ (limits : Limits) (segment : Float) (ks : List KeepOut) (az el feed : List Float) (n : ℕ) (new : State) (choice : Choice) (many : ℕ) (found : List ℕ)

@@ -1,3 +1,1 @@
-pub mod Neighbours
-pub mod Parent
 pub mod Rewiring

@@ -13,8 +13,8 @@ use Rattle.state.specs.declared.Limits.{Limits}
 use Rattle.keep_out.specs.declared.KeepOut.{KeepOut}
 use Rattle.motion.specs.Accepts.{acceptsOf}
 use Rattle.tree.specs.Table.{stateAt}
-use Rattle.rewire.specs.declared.Choice.{Choice}
-use Rattle.rewire.specs.Parent.{costAt}
+use Rattle.choice.specs.declared.Choice.{Choice}
+use Rattle.choice.specs.Parent.{costAt}
 
 -- how the nodes hang together: each one's parent and cost
 pub record Links : Type 0 where

@@ -2,10 +2,5 @@ pub mod Span
 pub mod Joins
 pub mod Grows
 pub mod View
-pub mod Joined
-pub mod Valid
-pub mod Runs
 pub mod Rows
-pub mod Closed
 pub mod Between
-pub mod Constructed

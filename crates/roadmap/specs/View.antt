@@ -9,9 +9,7 @@ use lib.Ieee.{Float, nan}
 use Rattle.state.specs.declared.State.{State}
 use Rattle.legs.specs.Bits.{legAt}
 use Rattle.roadmap.specs.declared.Roadmap.{Roadmap}
-use Rattle.roadmap.specs.declared.Built.{Built}
 use Rattle.roadmap.specs.Map.{Milestone}
-use Rattle.roadmap.specs.Construct.{Constructed}
 
 -- f at i, i + 1, .., n of them
 unfoldable pub spanOf : {A : Type 0} → ℕ → ℕ → (ℕ → A) → List A
@@ -29,10 +27,6 @@ viewOf az el feed legs n = spanOf 0 n (λ (i : ℕ). record { at = stateIn az el
 -- as many as the count says, at most the 256 of the table
 unfoldable pub milestonesOf : Roadmap → List Milestone
 milestonesOf m = viewOf (m .az) (m .el) (m .feed) (m .legs) (min (m .count) 256)
-
--- what a construction gave to its caller
-abbrev pub builtOf : Built → Constructed
-builtOf r = record { map = milestonesOf (r .map); answer = r .answer; taken = r .taken }
 
 -- no leg beyond the first n
 pub record Clean (legs : List ℕ) (n : ℕ) : Type 0 where

@@ -9,7 +9,7 @@ use Rattle.plan.specs.Setup.{usableOf}
 use Rattle.plan.specs.KeepOut.{moreOf, longerOf}
 use Rattle.plan.specs.declared.More.{More}
 use Rattle.plan.proofs.Adding as adding
-use Rattle.star.specs.Run.{StarPlan, starUnder}
+use Rattle.star_run.specs.Run.{StarPlan, starUnder}
 use Rattle.rrt_star.specs.declared.RrtStar.{RrtStar}
 use Rattle.rrt_star.specs.Planner.{plannerOf, addOf}
 use Rattle.rrt_star.proofs.Views.{view-set, view-unset}

@@ -20,7 +20,7 @@ use Rattle.plan.specs.Plan.{set}
 use Rattle.plan.specs.Setup.{goodSetup, usableOf}
 use Rattle.plan.proofs.Answers as answers
 use Rattle.star.specs.Grow.{treeIn}
-use Rattle.star.specs.Run.{starPlan, treeOf}
+use Rattle.star_run.specs.Run.{starPlan, treeOf}
 use Rattle.rrt_star.specs.declared.RrtStar.{RrtStar}
 use Rattle.rrt_star.specs.Planner.{View, plannerOf, rootCosted, setupOf}
 use Rattle.rrt_star.proofs.Views.{view-set}

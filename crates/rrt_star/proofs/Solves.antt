@@ -14,9 +14,9 @@ use Rattle.plan.specs.Solve.{Ended, Outcome, refusedOf, endedOf}
 use Rattle.plan.proofs.Usable.{usable-ready, usable-count}
 use Rattle.plan.proofs.Answers as answers
 use Rattle.rrt_star.specs.declared.RrtStar.{RrtStar}
-use Rattle.star.specs.declared.run.Ran.{Ran}
+use Rattle.star_run.specs.declared.Ran.{Ran}
 use Rattle.star.specs.Grow.{Costed}
-use Rattle.star.specs.Run.{StarPlan, starPlan, Runs}
+use Rattle.star_run.specs.Run.{StarPlan, starPlan, Runs}
 use Rattle.rrt_star.specs.Planner.{plannerOf}
 use Rattle.rrt_star.specs.Solve.{needed, runFrom, solveOf}
 use Rattle.rrt_star.proofs.Views.{view-set, view-unset}

@@ -14,7 +14,7 @@ use Rattle.plan.specs.Plan.{unset, set}
 use Rattle.plan.specs.Setup.{usableOf}
 use Rattle.plan.proofs.Usable.{usable-most}
 use Rattle.star.specs.Grow.{treeIn}
-use Rattle.star.specs.Run.{starPlan, treeOf}
+use Rattle.star_run.specs.Run.{starPlan, treeOf}
 use Rattle.rrt_star.specs.declared.RrtStar.{RrtStar}
 use Rattle.rrt_star.specs.declared.CostAt.the-variants.{Cost, Nothing}
 use Rattle.rrt_star.specs.Planner.{plannerOf, sizeOf, nodeOf, costOf}

@@ -20,7 +20,7 @@ use Rattle.plan.specs.Plan.{Planner, unset, set}
 use Rattle.plan.specs.Setup.{Told, goodSetup, setupWith, usableOf}
 use Rattle.plan.specs.KeepOut.{addWith}
 use Rattle.star.specs.Grow.{Costed}
-use Rattle.star.specs.Run.{StarPlan, starPlan, starUnder, treeOf}
+use Rattle.star_run.specs.Run.{StarPlan, starPlan, starUnder, treeOf}
 use Rattle.rrt_star.specs.declared.RrtStar.{RrtStar}
 use Rattle.rrt_star.specs.declared.Answered.{Answered}
 use Rattle.rrt_star.specs.declared.CostAt.{CostAt}

@@ -5,7 +5,7 @@ use lib.Ieee.{Float}
 use Rattle.state.specs.declared.State.{State}
 use Rattle.plan.specs.Solve.{Ended, Outcome, solveWith}
 use Rattle.star.specs.Grow.{Costed}
-use Rattle.star.specs.Run.{StarPlan, runOf}
+use Rattle.star_run.specs.Run.{StarPlan, runOf}
 use Rattle.rrt_star.specs.Planner.{View, plannerOf}
 use Rattle.rrt_star.specs.declared.Solved.{Solved}
 

@@ -4,7 +4,6 @@ use answer::Answer;
 use keep_out::KeepOut;
 use keep_out::KeepOuts;
 use motion::Mount;
-use star::run;
 use state::Goal;
 use state::Length;
 use state::Limits;
@@ -139,7 +138,7 @@ impl RrtStar {
                 };
             }
             if good {
-                let ran = run::run(
+                let ran = star_run::run(
                     self.mount,
                     self.max_distance,
                     self.search_radius,

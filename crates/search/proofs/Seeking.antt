@@ -13,7 +13,7 @@ use Rattle.state.specs.declared.Goal.{Goal}
 use Rattle.keep_out.specs.declared.KeepOut.{KeepOut}
 use Rattle.legs.specs.Bits.{legAt}
 use Rattle.roadmap.specs.Map.{Milestone, milestoneAt}
-use Rattle.roadmap.specs.Construct.{joinedOf}
+use Rattle.construct.specs.Construct.{joinedOf}
 use Rattle.roadmap.specs.View.{spanOf, stateIn, viewOf}
 use Rattle.roadmap.proofs.Span.{span-map, span-same}
 use Rattle.roadmap.proofs.View.{view-at, view-flags}

@@ -10,7 +10,7 @@ use Rattle.state.specs.declared.State.{State}
 use Rattle.state.specs.declared.Limits.{Limits}
 use Rattle.keep_out.specs.declared.KeepOut.{KeepOut}
 use Rattle.roadmap.specs.Map.{Milestone, milestoneAt, flagsOf}
-use Rattle.roadmap.specs.Construct.{joinedOf}
+use Rattle.construct.specs.Construct.{joinedOf}
 
 -- the numbers, from i on, of the flags that are set
 unfoldable pub numbersOf : ℕ → List Bool → List ℕ

@@ -13,7 +13,7 @@ ghost use lib.ListN.{length};
 ghost use Rattle.keep_out.specs.Table.{keepOutsOf};
 ghost use Rattle.columns.specs.Columns.{columnsOf};
 ghost use Rattle.legs.specs.Bits.{legAt};
-ghost use Rattle.roadmap.specs.Construct.{joinedOf};
+ghost use Rattle.construct.specs.Construct.{joinedOf};
 ghost use Rattle.roadmap.specs.View.{spanOf, stateIn, milestonesOf};
 ghost use Rattle.route.specs.Path.{pathOf};
 ghost use Rattle.search.specs.Search.{numbersOf};

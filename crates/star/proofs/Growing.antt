@@ -19,10 +19,10 @@ use Rattle.tree.specs.declared.Stepped.{Stepped}
 use Rattle.tree.proofs.Append.{states-more, nearest-below}
 use Rattle.extend.specs.declared.Verdict.{Verdict}
 use Rattle.extend.specs.declared.Verdict.the-variants.{Refused, Full, Added}
-use Rattle.rewire.specs.Neighbours.{neighboursOf, Found}
-use Rattle.rewire.specs.Parent.{chooseOf}
+use Rattle.neighbours.specs.Neighbours.{neighboursOf, Found}
+use Rattle.choice.specs.Parent.{chooseOf}
 use Rattle.rewire.specs.Rewiring.{Links, rewireOf, linksIn, Rewires}
-use Rattle.rewire.specs.declared.Choice.{Choice}
+use Rattle.choice.specs.declared.Choice.{Choice}
 use Rattle.star.specs.Grow.{Reach, Costed, treeIn, addedOf, Step, afterStep, growOf, Sized, Grows}
 use Rattle.star.proofs.Length.{tree-length}
 

@@ -15,10 +15,10 @@ use Rattle.tree.specs.Step.{stepOf}
 use Rattle.tree.specs.declared.Stepped.{Stepped}
 use Rattle.extend.specs.declared.Verdict.{Verdict}
 use Rattle.extend.specs.declared.Verdict.the-variants.{Refused, Full, Added}
-use Rattle.rewire.specs.Neighbours.{neighboursOf}
-use Rattle.rewire.specs.Parent.{chooseOf}
+use Rattle.neighbours.specs.Neighbours.{neighboursOf}
+use Rattle.choice.specs.Parent.{chooseOf}
 use Rattle.rewire.specs.Rewiring.{Links, rewireOf}
-use Rattle.star.specs.declared.grow.Grown.{Grown}
+use Rattle.star.specs.declared.Grown.{Grown}
 
 -- what a sample needs of the setup
 pub record Reach : Type 0 where

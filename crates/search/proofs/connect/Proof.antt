@@ -5,9 +5,9 @@ use mathlib.Core.Path.{_∙_}
 use native.Mathlib.Omega.{arith}
 use borrow.Author.Needs.{needs}
 use Rattle.columns.specs.Columns.{columnsOf}
-use Rattle.roadmap.specs.Construct.{joinedOf}
+use Rattle.construct.specs.Construct.{joinedOf}
 use Rattle.roadmap.specs.View.{stateIn}
-use Rattle.roadmap.proofs.Joined.{joined-far, joined-near}
+use Rattle.construct.proofs.Joined.{joined-far, joined-near}
 use Rattle.search.proofs.Pushing.{Pushing, pushing-starts, pushing-took, pushing-passed, pushing-ends}
 use Rattle.search.proofs.connect.Statement.{statement}
 use Rattle.search.proofs.connect.Tie as tie

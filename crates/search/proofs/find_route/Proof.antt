@@ -17,7 +17,7 @@ use Rattle.route.specs.Path.{pathOf}
 use Rattle.route.specs.Written.{writtenOf}
 use Rattle.route.proofs.Stores.{nothing-written}
 use Rattle.roadmap.specs.Map.{Milestone}
-use Rattle.roadmap.specs.Construct.{joinedOf}
+use Rattle.construct.specs.Construct.{joinedOf}
 use Rattle.roadmap.specs.View.{spanOf, stateIn, viewOf, milestonesOf}
 use Rattle.roadmap.specs.declared.Roadmap.{Roadmap}
 use Rattle.search.specs.Search.{numbersOf, Place, pushOf, Found}
