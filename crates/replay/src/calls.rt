@@ -1,10 +1,6 @@
 // The script, line after line: each call is made and answered, up to the input's end or the first line that is no call.
 use grammar::Planner;
 use mount_calls::Kept;
-use planner_calls::connect_calls;
-use planner_calls::prm_calls;
-use planner_calls::rrt_calls;
-use planner_calls::star_calls;
 use prm::Prm;
 use rrt::Rrt;
 use rrt_connect::RrtConnect;

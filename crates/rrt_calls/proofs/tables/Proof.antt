@@ -1,10 +1,10 @@
--- `planner_calls::star_calls::tables` is safe and ends: the nodes that are left fall.
+-- `rrt_calls::tables` is safe and ends: the nodes that are left fall.
 use borrow.Author.Needs.{needs}
 use lib.ListN.{length}
 use Prim.Native.Nat.{_≤_, _-_}
 use mathlib.Core.Path.{_≡_}
-use Rattle.planner_calls.proofs.star_calls.tables.Statement.{statement}
-use Rattle.planner_calls.proofs.star_calls.tables.Tie as tie
+use Rattle.rrt_calls.proofs.tables.Statement.{statement}
+use Rattle.rrt_calls.proofs.tables.Tie as tie
 
 abbrev Inv-loop : tie.InvT-loop
 Inv-loop out₀ planner size used₀ i₀ out used i = (length out ≡ length out₀) × (i ≤ size)
@@ -29,12 +29,6 @@ node-requires c κs = search needs
 
 node-requires-2 : tie.Need-node-requires-2 Inv-loop μ-loop
 node-requires-2 c κs = search needs
-
-cost-requires : tie.Need-cost-requires Inv-loop μ-loop
-cost-requires c κs = search needs
-
-cost-requires-2 : tie.Need-cost-requires-2 Inv-loop μ-loop
-cost-requires-2 c κs = search needs
 
 byte-requires : tie.Need-byte-requires Inv-loop μ-loop
 byte-requires c κs = search needs
@@ -69,8 +63,6 @@ tables-spec =
     loop-holds
     node-requires
     node-requires-2
-    cost-requires
-    cost-requires-2
     byte-requires
     add-i
     loop-less

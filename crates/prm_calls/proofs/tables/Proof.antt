@@ -1,10 +1,10 @@
--- `planner_calls::connect_calls::start_table` is safe and ends: the nodes that are left fall.
+-- `prm_calls::tables` is safe and ends: the milestones that are left fall.
 use borrow.Author.Needs.{needs}
 use lib.ListN.{length}
 use Prim.Native.Nat.{_≤_, _-_}
 use mathlib.Core.Path.{_≡_}
-use Rattle.planner_calls.proofs.connect_calls.start_table.Statement.{statement}
-use Rattle.planner_calls.proofs.connect_calls.start_table.Tie as tie
+use Rattle.prm_calls.proofs.tables.Statement.{statement}
+use Rattle.prm_calls.proofs.tables.Tie as tie
 
 abbrev Inv-loop : tie.InvT-loop
 Inv-loop out₀ planner size used₀ i₀ out used i = (length out ≡ length out₀) × (i ≤ size)
@@ -12,8 +12,8 @@ Inv-loop out₀ planner size used₀ i₀ out used i = (length out ≡ length ou
 abbrev μ-loop : tie.MeasureT-loop
 μ-loop out₀ planner size used₀ i₀ out used i = size - i
 
-start-size-requires : tie.Need-start-size-requires Inv-loop μ-loop
-start-size-requires c κs = search needs
+size-requires : tie.Need-size-requires Inv-loop μ-loop
+size-requires c κs = search needs
 
 slice-aggregate-heading : tie.Need-slice-aggregate-heading Inv-loop μ-loop
 slice-aggregate-heading c = search needs
@@ -24,11 +24,14 @@ heading-requires c κs = search needs
 loop-holds : tie.Need-loop-holds Inv-loop μ-loop
 loop-holds c = search needs
 
-start-node-requires : tie.Need-start-node-requires Inv-loop μ-loop
-start-node-requires c κs = search needs
+milestone-requires : tie.Need-milestone-requires Inv-loop μ-loop
+milestone-requires c κs = search needs
 
-node-requires : tie.Need-node-requires Inv-loop μ-loop
-node-requires c κs = search needs
+milestone-requires-2 : tie.Need-milestone-requires-2 Inv-loop μ-loop
+milestone-requires-2 c κs = search needs
+
+neighbours-requires : tie.Need-neighbours-requires Inv-loop μ-loop
+neighbours-requires c κs = search needs
 
 byte-requires : tie.Need-byte-requires Inv-loop μ-loop
 byte-requires c κs = search needs
@@ -51,18 +54,19 @@ same-length c = search needs
 returns : tie.Need-returns Inv-loop μ-loop
 returns c = search needs
 
-pub start-table-spec : {M : Type 1} → statement M
-start-table-spec =
+pub tables-spec : {M : Type 1} → statement M
+tables-spec =
     tie.close
     (tie.spec
     Inv-loop
     μ-loop
-    start-size-requires
+    size-requires
     slice-aggregate-heading
     heading-requires
     loop-holds
-    start-node-requires
-    node-requires
+    milestone-requires
+    milestone-requires-2
+    neighbours-requires
     byte-requires
     add-i
     loop-less

@@ -1,10 +1,10 @@
--- `planner_calls::connect_calls::goal_table` is safe and ends: the nodes that are left fall.
+-- `connect_calls::goal_table` is safe and ends: the nodes that are left fall.
 use borrow.Author.Needs.{needs}
 use lib.ListN.{length}
 use Prim.Native.Nat.{_≤_, _-_}
 use mathlib.Core.Path.{_≡_}
-use Rattle.planner_calls.proofs.connect_calls.goal_table.Statement.{statement}
-use Rattle.planner_calls.proofs.connect_calls.goal_table.Tie as tie
+use Rattle.connect_calls.proofs.goal_table.Statement.{statement}
+use Rattle.connect_calls.proofs.goal_table.Tie as tie
 
 abbrev Inv-loop : tie.InvT-loop
 Inv-loop out₀ planner size used₀ i₀ out used i = (length out ≡ length out₀) × (i ≤ size)

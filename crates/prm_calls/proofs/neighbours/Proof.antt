@@ -1,10 +1,10 @@
--- `planner_calls::prm_calls::neighbours` is safe and ends: the milestones that are left fall.
+-- `prm_calls::neighbours` is safe and ends: the milestones that are left fall.
 use borrow.Author.Needs.{needs}
 use lib.ListN.{length}
 use Prim.Native.Nat.{_≤_, _-_}
 use mathlib.Core.Path.{_≡_}
-use Rattle.planner_calls.proofs.prm_calls.neighbours.Statement.{statement}
-use Rattle.planner_calls.proofs.prm_calls.neighbours.Tie as tie
+use Rattle.prm_calls.proofs.neighbours.Statement.{statement}
+use Rattle.prm_calls.proofs.neighbours.Tie as tie
 
 abbrev Inv-loop : tie.InvT-loop
 Inv-loop out₀ used planner i size used₀ j₀ out used' j = (length out ≡ length out₀) × (j ≤ size)

@@ -1,10 +1,10 @@
--- `planner_calls::prm_calls::tables` is safe and ends: the milestones that are left fall.
+-- `star_calls::tables` is safe and ends: the nodes that are left fall.
 use borrow.Author.Needs.{needs}
 use lib.ListN.{length}
 use Prim.Native.Nat.{_≤_, _-_}
 use mathlib.Core.Path.{_≡_}
-use Rattle.planner_calls.proofs.prm_calls.tables.Statement.{statement}
-use Rattle.planner_calls.proofs.prm_calls.tables.Tie as tie
+use Rattle.star_calls.proofs.tables.Statement.{statement}
+use Rattle.star_calls.proofs.tables.Tie as tie
 
 abbrev Inv-loop : tie.InvT-loop
 Inv-loop out₀ planner size used₀ i₀ out used i = (length out ≡ length out₀) × (i ≤ size)
@@ -24,14 +24,17 @@ heading-requires c κs = search needs
 loop-holds : tie.Need-loop-holds Inv-loop μ-loop
 loop-holds c = search needs
 
-milestone-requires : tie.Need-milestone-requires Inv-loop μ-loop
-milestone-requires c κs = search needs
+node-requires : tie.Need-node-requires Inv-loop μ-loop
+node-requires c κs = search needs
 
-milestone-requires-2 : tie.Need-milestone-requires-2 Inv-loop μ-loop
-milestone-requires-2 c κs = search needs
+node-requires-2 : tie.Need-node-requires-2 Inv-loop μ-loop
+node-requires-2 c κs = search needs
 
-neighbours-requires : tie.Need-neighbours-requires Inv-loop μ-loop
-neighbours-requires c κs = search needs
+cost-requires : tie.Need-cost-requires Inv-loop μ-loop
+cost-requires c κs = search needs
+
+cost-requires-2 : tie.Need-cost-requires-2 Inv-loop μ-loop
+cost-requires-2 c κs = search needs
 
 byte-requires : tie.Need-byte-requires Inv-loop μ-loop
 byte-requires c κs = search needs
@@ -64,9 +67,10 @@ tables-spec =
     slice-aggregate-heading
     heading-requires
     loop-holds
-    milestone-requires
-    milestone-requires-2
-    neighbours-requires
+    node-requires
+    node-requires-2
+    cost-requires
+    cost-requires-2
     byte-requires
     add-i
     loop-less
