@@ -2,3 +2,4 @@
 pub mod Search
 pub mod Number
 pub mod Walk
+pub mod Valid

@@ -1,5 +1,4 @@
--- The walk over the checked points: what one turn of its loop does to the definition. A point is a state s with the two tests that
--- make it valid.
+-- The walk over the checked points: what one turn of its loop does to the definition.
 use Prim.Native.Nat.{ℕ, zero, suc, _+_, _-_, _≤_, _<_}
 use mathlib.Core.Bool.{Bool, true, false, cond}
 use mathlib.Core.List.{List, [], _∷_}
@@ -9,10 +8,8 @@ use native.Mathlib.Decide.{decLe}
 use borrow.Author.Tests.{le-leb, lt-leb}
 use lib.Dec.{leb}
 use lib.Ieee.{Float}
-use Rattle.state.specs.Ranges.{withinOf}
 use Rattle.state.specs.declared.State.{State}
 use Rattle.state.specs.declared.Limits.{Limits}
-use Rattle.keep_out.specs.Covers.{coveredOf}
 use Rattle.keep_out.specs.declared.KeepOut.{KeepOut}
 use Rattle.motion.specs.declared.Steps.the-variants.{Count, Many}
 use Rattle.motion.specs.Valid.{validOf}
@@ -63,14 +60,13 @@ module _ (limits : Limits) (ks : List KeepOut) (from to : State) (n last : ℕ) 
     unfolding allValid pointsFrom
     at-point = let k : last + 1 - i ≡ suc (last + 1 - (i + 1)) = omega arith in rw (k, ← is)
 
-    pub point-out : withinOf (limits .low) (limits .high) s ≡ false → leftAt i ≡ false
-    point-out e = at-point ∙ (unfold validOf in rw e)
+    -- r is what the test of the point answered
+    module _ {r : Bool} (tested : r ≡ validOf limits ks s) where
+      pub point-bad : r ≡ false → leftAt i ≡ false
+      point-bad e = at-point ∙ rw (← tested, e)
 
-    pub point-hit : withinOf (limits .low) (limits .high) s ≡ true → coveredOf ks s ≡ true → leftAt i ≡ false
-    point-hit e k = at-point ∙ (unfold validOf in rw (e, k))
-
-    pub point-free : withinOf (limits .low) (limits .high) s ≡ true → coveredOf ks s ≡ false → leftAt i ≡ leftAt (i + 1)
-    point-free e k = at-point ∙ (unfold validOf in rw (e, k))
+      pub point-good : r ≡ true → leftAt i ≡ leftAt (i + 1)
+      point-good e = at-point ∙ rw (← tested, e)
 
 -- The two cases of the motion check.
 module _ (limits : Limits) (segment : Float) (ks : List KeepOut) (from to : State) where
