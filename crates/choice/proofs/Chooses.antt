@@ -13,7 +13,8 @@ use Rattle.state.specs.declared.State.{State}
 use Rattle.state.specs.declared.Limits.{Limits}
 use Rattle.keep_out.specs.declared.KeepOut.{KeepOut}
 use Rattle.motion.specs.Accepts.{acceptsOf}
-use Rattle.tree.specs.Table.{rowAt, statesOf}
+use Rattle.state.specs.Rows.{rowAt}
+use Rattle.tree.specs.Table.{statesOf}
 use Rattle.tree.proofs.Append.{state-is}
 use Rattle.choice.specs.declared.Choice.{Choice}
 use Rattle.choice.specs.Parent.{costVia, isBetter, chooseFrom, chooseOf}

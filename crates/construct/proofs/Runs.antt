@@ -16,7 +16,8 @@ use Rattle.samples.specs.Samples.{samplesOf}
 use Rattle.samples.proofs.Threes.{three, fewer}
 use Rattle.roadmap.specs.Map.{Milestone}
 use Rattle.construct.specs.Construct.{Constructed, joinedOf, runOf, constructOf}
-use Rattle.roadmap.specs.View.{stateIn, viewOf, Clean, Joins}
+use Rattle.state.specs.Rows.{rowAt}
+use Rattle.roadmap.specs.View.{viewOf, Clean, Joins}
 use Rattle.roadmap.proofs.View.{view-long, view-flags}
 use Rattle.roadmap.proofs.Grows.{view-add, clean-add}
 
@@ -101,11 +102,11 @@ module _ {limits : Limits} {segment : Float} {ks : List KeepOut} {radius : Float
 
         -- a valid one becomes a milestone, joined to those that it reaches
         pub build-added :
-            valid ≡ true → n < 256 → Joins legs n n (λ (j : ℕ). joinedOf limits segment ks radius sample (stateIn az el feed j)) legs′ →
+            valid ≡ true → n < 256 → Joins legs n n (λ (j : ℕ). joinedOf limits segment ks radius sample (rowAt az el feed j)) legs′ →
             az′ ≡ set az n (sample .az) → el′ ≡ set el n (sample .el) → feed′ ≡ set feed n (sample .feed) → n′ ≡ n + 1 →
             Building limits segment ks radius l az′ el′ feed′ legs′ n′ (at + 3) (taken + 1)
         build-added e k joins p q r v =
-            let reached : ℕ → Bool = λ j. joinedOf limits segment ks radius sample (stateIn az el feed j) in
+            let reached : ℕ → Bool = λ j. joinedOf limits segment ks radius sample (rowAt az el feed j) in
             let grows = view-add az el feed legs n reached legs′ sample (h .az-sized) (h .el-sized) (h .feed-sized) k (h .clean) joins in
             let flags = view-flags az el feed legs n (joinedOf limits segment ks radius) sample in
             rw (p, q, r, v)

@@ -11,7 +11,8 @@ ghost use lib.ListN.{length};
 ghost use Rattle.keep_out.specs.Table.{keepOutsOf};
 ghost use Rattle.columns.specs.Columns.{columnsOf};
 ghost use Rattle.samples.specs.Samples.{samplesOf};
-ghost use Rattle.roadmap.specs.View.{stateIn, milestonesOf, Joins};
+ghost use Rattle.state.specs.Rows.{rowAt};
+ghost use Rattle.roadmap.specs.View.{milestonesOf, Joins};
 ghost use Rattle.construct.specs.Construct.{joinedOf, constructOf, builtOf};
 
 // How a construction ended.
@@ -38,7 +39,7 @@ fn join_earlier<'a>(
     legs: &mut [u64; 1024],
 )
     requires { ⌜ (n < 256) × (length (now legs) ≡ 1024) ⌝ }
-    ensures { λ _. ⌜ Joins (now (legs .entry)) n n (λ (j : ℕ). joinedOf limits segment (columnsOf (now (kinds .entry)) (now (numbers .entry)) «keep_outs») radius new (stateIn (now (az .entry)) (now (el .entry)) (now (feed .entry)) j)) (now (legs .exit)) ⌝ }
+    ensures { λ _. ⌜ Joins (now (legs .entry)) n n (λ (j : ℕ). joinedOf limits segment (columnsOf (now (kinds .entry)) (now (numbers .entry)) «keep_outs») radius new (rowAt (now (az .entry)) (now (el .entry)) (now (feed .entry)) j)) (now (legs .exit)) ⌝ }
 {
     let mut j: usize = 0;
     'earlier: while j < n {

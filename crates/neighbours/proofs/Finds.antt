@@ -12,7 +12,8 @@ use lib.Seq.{getD-set-same, getD-set-other, take-suc-set}
 use lib.Ieee.{Float, lt}
 use Rattle.state.specs.Distance.{distanceOf}
 use Rattle.state.specs.declared.State.{State}
-use Rattle.tree.specs.Table.{rowAt, rowsOf, statesOf}
+use Rattle.state.specs.Rows.{rowAt}
+use Rattle.tree.specs.Table.{rowsOf, statesOf}
 use Rattle.tree.proofs.Rows.{rows-more, rows-none, states-are}
 use Rattle.neighbours.specs.Neighbours.{neighboursFrom, neighboursOf, Numbers, Found}
 

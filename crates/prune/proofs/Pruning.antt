@@ -13,7 +13,8 @@ use Rattle.legs.specs.Bits.{legAt}
 use Rattle.roadmap.specs.declared.Roadmap.{Roadmap}
 use Rattle.roadmap.specs.Keep.{keepOf}
 use Rattle.roadmap.specs.Map.{Milestone, addOf}
-use Rattle.roadmap.specs.View.{spanOf, stateIn, viewOf, milestonesOf, Clean, Joins}
+use Rattle.state.specs.Rows.{rowAt}
+use Rattle.roadmap.specs.View.{spanOf, viewOf, milestonesOf, Clean, Joins}
 use Rattle.roadmap.proofs.View.{clean}
 use Rattle.roadmap.proofs.Grows.{view-add, clean-add}
 use Rattle.prune.specs.Hit.{hitOf}
@@ -25,7 +26,7 @@ use Rattle.prune.proofs.Turns.{itself, stands, old-more, left-kept, kep
 module _ (map : Roadmap) where
   -- the state of a former number
   abbrev pub was : ℕ → State
-  was = stateIn (map .az) (map .el) (map .feed)
+  was = rowAt (map .az) (map .el) (map .feed)
 
   abbrev pub size : ℕ
   size = min (map .count) 256

@@ -9,7 +9,8 @@ ghost use mathlib.Core.Path.{_≡_};
 ghost use Prim.Native.Nat.{ℕ, _<_};
 ghost use lib.ListN.{length, getD};
 ghost use Rattle.legs.specs.Bits.{legAt};
-ghost use Rattle.roadmap.specs.View.{stateIn, milestonesOf, Joins};
+ghost use Rattle.state.specs.Rows.{rowAt};
+ghost use Rattle.roadmap.specs.View.{milestonesOf, Joins};
 ghost use Rattle.prune.specs.Hit.{hitOf};
 ghost use Rattle.prune.specs.Prune.{prunedOf};
 ghost use Rattle.prune.specs.Numbers.{Numbers};
@@ -54,7 +55,7 @@ fn keep_legs<'a>(
     legs: &mut [u64; 1024],
 )
     requires { ⌜ (i < 256) × (n < 256) × (length (now legs) ≡ 1024) × Numbers (now old) (now at) n i ⌝ }
-    ensures { λ _. ⌜ Joins (now (legs .entry)) n n (λ (j : ℕ). legAt (now (was .entry)) i (getD (now (old .entry)) j 0) && not (hitOf segment k new (stateIn (now (az .entry)) (now (el .entry)) (now (feed .entry)) (getD (now (old .entry)) j 0)))) (now (legs .exit)) ⌝ }
+    ensures { λ _. ⌜ Joins (now (legs .entry)) n n (λ (j : ℕ). legAt (now (was .entry)) i (getD (now (old .entry)) j 0) && not (hitOf segment k new (rowAt (now (az .entry)) (now (el .entry)) (now (feed .entry)) (getD (now (old .entry)) j 0)))) (now (legs .exit)) ⌝ }
 {
     let mut o = legs::next(was, i, 0);
     'stood: while o < i {

@@ -13,7 +13,8 @@ use lib.Ieee.{Float, nan}
 use Rattle.state.specs.declared.State.{State}
 use Rattle.legs.specs.Bits.{legAt}
 use Rattle.roadmap.specs.Map.{Milestone, addOf}
-use Rattle.roadmap.specs.View.{spanOf, stateIn, viewOf, Clean, Joins}
+use Rattle.state.specs.Rows.{rowAt}
+use Rattle.roadmap.specs.View.{spanOf, viewOf, Clean, Joins}
 use Rattle.roadmap.proofs.Span.{span-snoc, span-same, span-mark}
 use Rattle.roadmap.proofs.Joins.{or-none}
 
@@ -42,14 +43,12 @@ module _ (az el feed : List Float) (old : List ℕ) (n : ℕ) (f : ℕ → Bool)
   cell-last : legAt now n n ≡ false
   cell-last = joins .is n n room room ∙ rw (clean .row n n room room (omega arith), eq-eqb n n refl, le-ltb n n (omega arith))
 
-  state-same : (a : ℕ) → a < n → stateIn az′ el′ feed′ a ≡ stateIn az el feed a
-  unfolding stateIn
+  state-same : (a : ℕ) → a < n → rowAt az′ el′ feed′ a ≡ rowAt az el feed a
   state-same a ha =
       let e : a ≡ n → ⊥ = λ z. omega arith in
       rw (getD-set-other az n a (s .az) nan e, getD-set-other el n a (s .el) nan e, getD-set-other feed n a (s .feed) nan e)
 
-  state-new : stateIn az′ el′ feed′ n ≡ s
-  unfolding stateIn
+  state-new : rowAt az′ el′ feed′ n ≡ s
   state-new = rw (getD-set-same az n (s .az) nan (omega arith), getD-set-same el n (s .el) nan (omega arith), getD-set-same feed n (s .feed) nan (omega arith))
 
   row-old : (a : ℕ) → a < n → spanOf 0 (suc n) (λ (j : ℕ). legAt now a j) ≡ spanOf 0 n (λ (j : ℕ). legAt old a j) ++ (f a ∷ [])
@@ -66,10 +65,10 @@ module _ (az el feed : List Float) (old : List ℕ) (n : ℕ) (f : ℕ → Bool)
       (let e : 0 + n ≡ n = omega arith in rw e cell-last)
 
   abbrev entry : ℕ → Milestone
-  entry a = record { at = stateIn az′ el′ feed′ a; legs = spanOf 0 (suc n) (λ (j : ℕ). legAt now a j) }
+  entry a = record { at = rowAt az′ el′ feed′ a; legs = spanOf 0 (suc n) (λ (j : ℕ). legAt now a j) }
 
   abbrev grown : ℕ → Milestone
-  grown a = record { at = stateIn az el feed a; legs = spanOf 0 n (λ (j : ℕ). legAt old a j) ++ (f a ∷ []) }
+  grown a = record { at = rowAt az el feed a; legs = spanOf 0 n (λ (j : ℕ). legAt old a j) ++ (f a ∷ []) }
 
   entry-old : (a : ℕ) → a < n → entry a ≡ grown a
   entry-old a ha = rw (state-same a ha, row-old a ha)
@@ -84,7 +83,7 @@ module _ (az el feed : List Float) (old : List ℕ) (n : ℕ) (f : ℕ → Bool)
       (span-snoc 0 n entry
       ∙ ap₂ (λ (l : List Milestone) (x : Milestone). l ++ (x ∷ []))
       (span-same 0 n entry grown (λ j _ h. entry-old j (omega arith))
-      ∙ sym (span-mark 0 n (stateIn az el feed) (λ (i : ℕ). spanOf 0 n (λ (j : ℕ). legAt old i j)) f)) entry-new)
+      ∙ sym (span-mark 0 n (rowAt az el feed) (λ (i : ℕ). spanOf 0 n (λ (j : ℕ). legAt old i j)) f)) entry-new)
 
   pub clean-add : Clean now (n + 1)
   clean-add =

@@ -12,12 +12,13 @@ use Rattle.legs.specs.Bits.{legAt}
 use Rattle.legs.proofs.Square.{cleared}
 use Rattle.roadmap.specs.declared.MilestoneAt.the-variants.{At, Nothing}
 use Rattle.roadmap.specs.Map.{Milestone, milestoneAt, milestoneOf, legOf, flagsOf}
-use Rattle.roadmap.specs.View.{spanOf, stateIn, viewOf, Clean}
+use Rattle.state.specs.Rows.{rowAt}
+use Rattle.roadmap.specs.View.{spanOf, viewOf, Clean}
 use Rattle.roadmap.proofs.Span.{span-long, span-map, span-get, span-over}
 
 module _ (az el feed : List Float) (legs : List ℕ) (n : ℕ) where
   abbrev entry : ℕ → Milestone
-  entry i = record { at = stateIn az el feed i; legs = spanOf 0 n (λ (j : ℕ). legAt legs i j) }
+  entry i = record { at = rowAt az el feed i; legs = spanOf 0 n (λ (j : ℕ). legAt legs i j) }
 
   pub view-long : length (viewOf az el feed legs n) ≡ n
   unfolding viewOf
@@ -25,7 +26,7 @@ module _ (az el feed : List Float) (legs : List ℕ) (n : ℕ) where
 
   pub view-flags :
       (joins : State → State → Bool) (s : State) →
-      flagsOf joins (viewOf az el feed legs n) s ≡ spanOf 0 n (λ (j : ℕ). joins s (stateIn az el feed j))
+      flagsOf joins (viewOf az el feed legs n) s ≡ spanOf 0 n (λ (j : ℕ). joins s (rowAt az el feed j))
   unfolding viewOf flagsOf
   view-flags joins s = span-map 0 n entry (λ (m : Milestone). joins s (m .at))
 
@@ -38,7 +39,7 @@ module _ (az el feed : List Float) (legs : List ℕ) (n : ℕ) where
   unfolding milestoneAt viewOf
   view-at i h = let e : 0 + i ≡ i = omega arith in span-get 0 n entry i _ h ∙ ap entry e
 
-  pub state-at : (i : ℕ) → i < n → At (stateIn az el feed i) ≡ milestoneOf (viewOf az el feed legs n) i
+  pub state-at : (i : ℕ) → i < n → At (rowAt az el feed i) ≡ milestoneOf (viewOf az el feed legs n) i
   unfolding milestoneOf
   state-at i h = rw (view-long, lt-ltb i n h, view-at i h)
 

@@ -6,7 +6,7 @@ use mathlib.Core.Path.{_≡_}
 use lib.Dec.{eqb, ltb}
 use lib.ListN.{getD, length}
 use lib.Ieee.{Float, nan}
-use Rattle.state.specs.declared.State.{State}
+use Rattle.state.specs.Rows.{rowAt}
 use Rattle.legs.specs.Bits.{legAt}
 use Rattle.roadmap.specs.declared.Roadmap.{Roadmap}
 use Rattle.roadmap.specs.Map.{Milestone}
@@ -16,13 +16,9 @@ unfoldable pub spanOf : {A : Type 0} → ℕ → ℕ → (ℕ → A) → List A
 spanOf i zero f = []
 spanOf i (suc n) f = f i ∷ spanOf (i + 1) n f
 
--- the state at an index of three columns
-unfoldable pub stateIn : List Float → List Float → List Float → ℕ → State
-stateIn az el feed i = record { az = getD az i nan; el = getD el i nan; feed = getD feed i nan }
-
 -- the first n milestones of three columns and a square of legs
 unfoldable pub viewOf : List Float → List Float → List Float → List ℕ → ℕ → List Milestone
-viewOf az el feed legs n = spanOf 0 n (λ (i : ℕ). record { at = stateIn az el feed i; legs = spanOf 0 n (λ (j : ℕ). legAt legs i j) })
+viewOf az el feed legs n = spanOf 0 n (λ (i : ℕ). record { at = rowAt az el feed i; legs = spanOf 0 n (λ (j : ℕ). legAt legs i j) })
 
 -- as many as the count says, at most the 256 of the table
 unfoldable pub milestonesOf : Roadmap → List Milestone

@@ -5,7 +5,8 @@ use mathlib.Core.Path.{_≡_}
 use lib.ListN.{length, getD}
 use lib.Seq.{getD-take}
 use lib.Ieee.{Float}
-use Rattle.tree.specs.Table.{rowAt, nodesIn, stateAt, parentAt}
+use Rattle.state.specs.Rows.{rowAt}
+use Rattle.tree.specs.Table.{nodesIn, stateAt, parentAt}
 use Rattle.tree.proofs.Append.{states-length, state-is}
 
 module _ (az el feed : List Float) (parent : List ℕ) (n : ℕ) (room : n ≤ 512) where

@@ -14,7 +14,8 @@ use Rattle.keep_out.specs.declared.KeepOut.{KeepOut}
 use Rattle.legs.specs.Bits.{legAt}
 use Rattle.roadmap.specs.Map.{Milestone, milestoneAt}
 use Rattle.construct.specs.Construct.{joinedOf}
-use Rattle.roadmap.specs.View.{spanOf, stateIn, viewOf}
+use Rattle.state.specs.Rows.{rowAt}
+use Rattle.roadmap.specs.View.{spanOf, viewOf}
 use Rattle.roadmap.proofs.Span.{span-map, span-same}
 use Rattle.roadmap.proofs.View.{view-at, view-flags}
 use Rattle.search.specs.Search.{numbersOf, connectionsOf, neighboursOf, Place, pushOf, Found, nothing, here, searchOf}
@@ -39,7 +40,7 @@ module _ (goal : Goal) (az el feed : List Float) (legs : List ℕ) (count : ℕ)
   pub seeking-starts : (marks : List Bool) (seen order from : List ℕ) (n : ℕ) → Queue count marks seen order from n → Seeking (queueOf order from n) marks seen order from n 0
   seeking-starts marks seen order from n queue = record { within = omega arith; queue = queue; is = refl }
 
-  goal-is : (u : ℕ) → u < count → goalOf goal ms u ≡ satisfiedOf goal (stateIn az el feed u)
+  goal-is : (u : ℕ) → u < count → goalOf goal ms u ≡ satisfiedOf goal (rowAt az el feed u)
   unfolding goalOf
   goal-is u h = rw (view-at az el feed legs count u h)
 
@@ -50,7 +51,7 @@ module _ (goal : Goal) (az el feed : List Float) (legs : List ℕ) (count : ℕ)
 module _ {goal : Goal} {az el feed : List Float} {legs : List ℕ} {count : ℕ} {q₀ : List Place} {marks : List Bool} {seen order from : List ℕ} {n p : ℕ}
     (h : Seeking goal az el feed legs count q₀ marks seen order from n p) where
   abbrev at : ℕ → State
-  at = stateIn az el feed
+  at = rowAt az el feed
 
   abbrev seek : ℕ → List Place → ℕ → Found
   seek = seeks goal az el feed legs count
@@ -107,7 +108,7 @@ module _ {goal : Goal} {az el feed : List Float} {legs : List ℕ} {count : ℕ}
 -- the query from the queue of the start connections
 module _ (limits : Limits) (segment : Float) (ks : List KeepOut) (radius : Float) (start : State) (goal : Goal) (az el feed : List Float) (legs : List ℕ) (count : ℕ)
     (order from : List ℕ) (q₀ : List Place)
-    (first : q₀ ≡ pushOf 0 (queueOf order from 0) (numbersOf 0 (spanOf 0 count (λ (j : ℕ). joinedOf limits segment ks radius start (stateIn az el feed j))))) where
+    (first : q₀ ≡ pushOf 0 (queueOf order from 0) (numbersOf 0 (spanOf 0 count (λ (j : ℕ). joinedOf limits segment ks radius start (rowAt az el feed j))))) where
   pub query-is :
       queryOf limits segment ks radius start goal (ms goal az el feed legs count) ≡ routeOf start (ms goal az el feed legs count) (seeks goal az el feed legs count 256 q₀ 0)
   unfolding queryOf soughtOf connectionsOf queueOf spanOf

@@ -14,7 +14,8 @@ ghost use Rattle.keep_out.specs.Table.{keepOutsOf};
 ghost use Rattle.columns.specs.Columns.{columnsOf};
 ghost use Rattle.legs.specs.Bits.{legAt};
 ghost use Rattle.construct.specs.Construct.{joinedOf};
-ghost use Rattle.roadmap.specs.View.{spanOf, stateIn, milestonesOf};
+ghost use Rattle.state.specs.Rows.{rowAt};
+ghost use Rattle.roadmap.specs.View.{spanOf, milestonesOf};
 ghost use Rattle.route.specs.Path.{pathOf};
 ghost use Rattle.search.specs.Search.{numbersOf};
 ghost use Rattle.search.specs.Query.{treeOf, queryOf, Routed};
@@ -66,7 +67,7 @@ fn connect<'a>(
     from: &mut [usize; 256],
 ) -> usize
     requires { ⌜ (count ≤ 256) × Queue count (now marks) (now seen) (now order) (now from) 0 ⌝ }
-    ensures { λ r. ⌜ Pushed count (now (order .entry)) (now (from .entry)) 0 0 (numbersOf 0 (spanOf 0 count (λ (j : ℕ). joinedOf limits segment (columnsOf (now (kinds .entry)) (now (numbers .entry)) «keep_outs») radius start (stateIn (now (az .entry)) (now (el .entry)) (now (feed .entry)) j)))) (now (marks .exit)) (now (seen .exit)) (now (order .exit)) (now (from .exit)) r ⌝ }
+    ensures { λ r. ⌜ Pushed count (now (order .entry)) (now (from .entry)) 0 0 (numbersOf 0 (spanOf 0 count (λ (j : ℕ). joinedOf limits segment (columnsOf (now (kinds .entry)) (now (numbers .entry)) «keep_outs») radius start (rowAt (now (az .entry)) (now (el .entry)) (now (feed .entry)) j)))) (now (marks .exit)) (now (seen .exit)) (now (order .exit)) (now (from .exit)) r ⌝ }
 {
     let mut n: usize = 0;
     let mut v: usize = 0;
@@ -123,7 +124,7 @@ fn write<'a>(
     route: &mut [f64],
 ) -> usize
     requires { ⌜ (p < n) × (n ≤ 256) × Numbers n (now order) × (771 ≤ length (now route)) ⌝ }
-    ensures { λ r. ⌜ Routed (pathOf (treeOf start (stateIn (now (az .entry)) (now (el .entry)) (now (feed .entry))) (queueOf (now (order .entry)) (now (from .entry)) n)) (p + 1)) (now (route .entry)) r (now (route .exit)) ⌝ }
+    ensures { λ r. ⌜ Routed (pathOf (treeOf start (rowAt (now (az .entry)) (now (el .entry)) (now (feed .entry))) (queueOf (now (order .entry)) (now (from .entry)) n)) (p + 1)) (now (route .entry)) r (now (route .exit)) ⌝ }
 {
     let mut tree = Tree::rooted(start);
     let mut k: usize = 0;

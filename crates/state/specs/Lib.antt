@@ -3,3 +3,4 @@ pub mod Made
 pub mod Distance
 pub mod Steering
 pub mod Satisfied
+pub mod Rows

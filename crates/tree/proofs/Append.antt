@@ -12,7 +12,8 @@ use Rattle.state.specs.declared.State.{State}
 use Rattle.state.specs.Distance.{distanceOf}
 use Rattle.tree.specs.declared.Near.{Near}
 use Rattle.tree.specs.declared.Tree.{Tree}
-use Rattle.tree.specs.Table.{rowAt, rowsOf, statesOf, stateAt, nodesIn, nodesOf, grownOf, rootOf, rootedOf, noNodes, noneOf}
+use Rattle.state.specs.Rows.{rowAt}
+use Rattle.tree.specs.Table.{rowsOf, statesOf, stateAt, nodesIn, nodesOf, grownOf, rootOf, rootedOf, noNodes, noneOf}
 use Rattle.tree.specs.Nearest.{betterOf, nearestFrom, nearestOf}
 
 module _ (az el feed : List Float) where

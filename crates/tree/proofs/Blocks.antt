@@ -9,7 +9,8 @@ use mathlib.Core.Logic.{⊎-elim}
 use lib.Ieee.{Float, lt}
 use Rattle.state.specs.declared.State.{State}
 use Rattle.tree.specs.declared.Near.{Near}
-use Rattle.tree.specs.Table.{rowAt, rowsOf, statesOf}
+use Rattle.state.specs.Rows.{rowAt}
+use Rattle.tree.specs.Table.{rowsOf, statesOf}
 use Rattle.tree.specs.Nearest.{farOf, betterOf, nearestFrom, nearestOf, lessOf, Lowest}
 use Rattle.laws.specs.Order.{whether, clash, good, at-most, under, over, self}
 use Rattle.state.proofs.Good.{distance-good}

@@ -7,7 +7,8 @@ use lib.Ieee.{Float, lt}
 use Rattle.state.specs.Distance.{distanceOf}
 use Rattle.state.specs.declared.State.{State}
 use Rattle.tree.specs.declared.Near.{Near}
-use Rattle.tree.specs.Table.{rowAt, rowsOf, statesOf}
+use Rattle.state.specs.Rows.{rowAt}
+use Rattle.tree.specs.Table.{rowsOf, statesOf}
 use Rattle.tree.specs.Nearest.{betterOf, nearestFrom, nearestOf}
 use Rattle.tree.proofs.Rows.{rows-more, rows-none, states-are}
 

@@ -8,7 +8,8 @@ use lib.ListN.{length, getD}
 use lib.Seq.{getD-take}
 use lib.Ieee.{Float}
 use Rattle.tree.specs.declared.NodeAt.the-variants.{Root, Child, Nothing}
-use Rattle.tree.specs.Table.{Nodes, rowAt, nodesIn, stateAt, parentAt, nodeAtOf}
+use Rattle.state.specs.Rows.{rowAt}
+use Rattle.tree.specs.Table.{Nodes, nodesIn, stateAt, parentAt, nodeAtOf}
 use Rattle.tree.proofs.Append.{states-most, state-most}
 
 module _ (az el feed : List Float) (parent : List ℕ) (n i count : ℕ) (is : count ≡ min n 512) where

@@ -4,7 +4,8 @@ use mathlib.Core.List.{List, [], _∷_}
 use mathlib.Core.Path.{_≡_}
 use native.Mathlib.Omega.{arith}
 use lib.Ieee.{Float}
-use Rattle.tree.specs.Table.{rowAt, rowsOf, statesOf}
+use Rattle.state.specs.Rows.{rowAt}
+use Rattle.tree.specs.Table.{rowsOf, statesOf}
 
 module _ (az el feed : List Float) (n : ℕ) where
   pub rows-more : (i : ℕ) → i < n → rowsOf az el feed (n - i) i ≡ rowAt az el feed i ∷ rowsOf az el feed (n - (i + 1)) (i + 1)

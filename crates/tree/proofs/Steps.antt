@@ -10,7 +10,8 @@ use Rattle.state.specs.declared.Limits.{Limits}
 use Rattle.keep_out.specs.declared.KeepOut.{KeepOut}
 use Rattle.motion.specs.Accepts.{acceptsOf}
 use Rattle.tree.specs.declared.Near.{Near}
-use Rattle.tree.specs.Table.{rowAt, statesOf}
+use Rattle.state.specs.Rows.{rowAt}
+use Rattle.tree.specs.Table.{statesOf}
 use Rattle.tree.specs.Nearest.{nearestOf}
 use Rattle.tree.specs.Step.{stepFrom, stepOf}
 use Rattle.tree.proofs.Append.{state-is, nearest-below}

@@ -7,7 +7,7 @@ use lib.Ieee.{Float, binary64, lt, ofBits}
 use Rattle.state.specs.Distance.{distanceOf}
 use Rattle.state.specs.declared.State.{State}
 use Rattle.tree.specs.declared.Near.{Near}
-use Rattle.tree.specs.Table.{rowAt}
+use Rattle.state.specs.Rows.{rowAt}
 
 -- the better of the best so far and the state at i, whose distance is d: a tie keeps the best so far
 abbrev pub betterOf : Near → ℕ → Float → Near

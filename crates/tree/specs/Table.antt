@@ -5,14 +5,11 @@ use mathlib.Core.Bool.{cond}
 use lib.Dec.{ltb}
 use lib.ListN.{length, getD, take, replicate}
 use lib.Ieee.{Float, nan, binary64, ofBits}
+use Rattle.state.specs.Rows.{rowAt}
 use Rattle.state.specs.declared.State.{State}
 use Rattle.tree.specs.declared.Tree.{Tree}
 use Rattle.tree.specs.declared.NodeAt.{NodeAt}
 use Rattle.tree.specs.declared.NodeAt.the-variants.{Root, Child, Nothing}
-
--- what stands at i
-abbrev pub rowAt : List Float → List Float → List Float → ℕ → State
-rowAt az el feed i = record { az = getD az i nan; el = getD el i nan; feed = getD feed i nan }
 
 -- k of them from i on
 unfoldable pub rowsOf : List Float → List Float → List Float → ℕ → ℕ → List State

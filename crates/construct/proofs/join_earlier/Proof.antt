@@ -6,7 +6,8 @@ use native.Mathlib.Omega.{arith}
 use borrow.Author.Needs.{needs}
 use Rattle.columns.specs.Columns.{columnsOf}
 use Rattle.construct.specs.Construct.{joinedOf}
-use Rattle.roadmap.specs.View.{stateIn, Joins}
+use Rattle.state.specs.Rows.{rowAt}
+use Rattle.roadmap.specs.View.{Joins}
 use Rattle.roadmap.proofs.Joins.{joins-none, joins-yes, joins-not}
 use Rattle.construct.proofs.Joined.{joined-far, joined-near}
 use Rattle.construct.proofs.join_earlier.Statement.{statement}
@@ -14,7 +15,7 @@ use Rattle.construct.proofs.join_earlier.Tie as tie
 
 abbrev Inv-earlier : tie.InvT-earlier
 Inv-earlier limits segment kinds numbers keep-outs radius new az el feed n legs₀ j₀ legs j =
-    (j ≤ n) × Joins legs₀ n j (λ (i : ℕ). joinedOf limits segment (columnsOf kinds numbers keep-outs) radius new (stateIn az el feed i)) legs
+    (j ≤ n) × Joins legs₀ n j (λ (i : ℕ). joinedOf limits segment (columnsOf kinds numbers keep-outs) radius new (rowAt az el feed i)) legs
 
 abbrev μ-earlier : tie.MeasureT-earlier
 μ-earlier limits segment kinds numbers keep-outs radius new az el feed n legs₀ j₀ legs j = n - j
@@ -58,7 +59,6 @@ earlier-less : tie.Need-earlier-less Inv-earlier μ-earlier
 earlier-less c = omega arith
 
 earlier-again : tie.Need-earlier-again Inv-earlier μ-earlier
-unfolding stateIn
 earlier-again c =
     let h = c .before .before .before .before .before .before in
     let far = c .before .distance .ensures in (

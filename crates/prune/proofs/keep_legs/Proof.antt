@@ -8,7 +8,8 @@ use borrow.Author.Needs.{needs}
 use lib.Dec.{ltb}
 use lib.ListN.{getD}
 use Rattle.legs.specs.Bits.{legAt}
-use Rattle.roadmap.specs.View.{stateIn, Joins}
+use Rattle.state.specs.Rows.{rowAt}
+use Rattle.roadmap.specs.View.{Joins}
 use Rattle.prune.specs.Hit.{hitOf}
 use Rattle.prune.proofs.Stood.{kept-none, kept-all, kept-hit, kept-gone-end, kept-free, joins-same, joins-more, joins-unset}
 use Rattle.prune.proofs.keep_legs.Statement.{statement}
@@ -16,7 +17,7 @@ use Rattle.prune.proofs.keep_legs.Tie as tie
 
 abbrev Inv-stood : tie.InvT-stood
 Inv-stood k segment new az el feed was i old at n legs₀ o₀ legs o =
-    (o ≤ 256) × (o < 256 → legAt was i o ≡ true) × Joins legs₀ n n (λ (j : ℕ). ltb (getD old j 0) o && (legAt was i (getD old j 0) && not (hitOf segment k new (stateIn az el feed (getD old j 0))))) legs
+    (o ≤ 256) × (o < 256 → legAt was i o ≡ true) × Joins legs₀ n n (λ (j : ℕ). ltb (getD old j 0) o && (legAt was i (getD old j 0) && not (hitOf segment k new (rowAt az el feed (getD old j 0))))) legs
 
 abbrev μ-stood : tie.MeasureT-stood
 μ-stood k segment new az el feed was i old at n legs₀ o₀ legs o = 256 - o
@@ -27,7 +28,7 @@ module _ (s : tie.Start Inv-stood μ-stood) where
   row = legAt (s .args .was .now) (s .args .i)
 
   abbrev hit : ℕ → Bool
-  hit x = hitOf (s .args .segment) (s .args .k) (s .args .new) (stateIn (s .args .az .now) (s .args .el .now) (s .args .feed .now) x)
+  hit x = hitOf (s .args .segment) (s .args .k) (s .args .new) (rowAt (s .args .az .now) (s .args .el .now) (s .args .feed .now) x)
 
 next-requires : tie.Need-next-requires Inv-stood μ-stood
 next-requires c κs = (omega arith, omega arith)
@@ -83,7 +84,6 @@ stood-less : tie.Need-stood-less Inv-stood μ-stood
 stood-less c = omega (arith, c .next2 .ensures .onward)
 
 stood-again : tie.Need-stood-again Inv-stood μ-stood
-unfolding stateIn
 stood-again c =
     let turn = c .before .before .before in
     let h = turn .before .stood in

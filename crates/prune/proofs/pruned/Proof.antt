@@ -4,7 +4,8 @@ use mathlib.Core.Logic.{⊎-elim}
 use mathlib.Core.Path.{_≡_, refl, sym, _∙_, ap}
 use native.Mathlib.Omega.{arith}
 use borrow.Author.Needs.{needs}
-use Rattle.roadmap.specs.View.{stateIn, viewOf, milestonesOf}
+use Rattle.state.specs.Rows.{rowAt}
+use Rattle.roadmap.specs.View.{viewOf, milestonesOf}
 use Rattle.prune.proofs.Pruning.{Pruning, prune-starts, prune-gone, prune-kept, prune-ends}
 use Rattle.prune.proofs.pruned.Statement.{statement}
 use Rattle.prune.proofs.pruned.Tie as tie
@@ -106,7 +107,6 @@ milestones-less : tie.Need-milestones-less Inv-milestones μ-milestones
 milestones-less c = omega arith
 
 milestones-again : tie.Need-milestones-again Inv-milestones μ-milestones
-unfolding stateIn
 milestones-again c =
     let turn = c .before .before .before .before .before in
     let h = turn .before .milestones .inv in

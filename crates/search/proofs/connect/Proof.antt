@@ -6,7 +6,7 @@ use native.Mathlib.Omega.{arith}
 use borrow.Author.Needs.{needs}
 use Rattle.columns.specs.Columns.{columnsOf}
 use Rattle.construct.specs.Construct.{joinedOf}
-use Rattle.roadmap.specs.View.{stateIn}
+use Rattle.state.specs.Rows.{rowAt}
 use Rattle.construct.proofs.Joined.{joined-far, joined-near}
 use Rattle.search.proofs.Pushing.{Pushing, pushing-starts, pushing-took, pushing-passed, pushing-ends}
 use Rattle.search.proofs.connect.Statement.{statement}
@@ -15,7 +15,7 @@ use Rattle.search.proofs.connect.Tie as tie
 abbrev Inv-milestones : tie.InvT-milestones
 Inv-milestones limits segment kinds numbers keep-outs radius start az el feed count marks₀ seen₀ order₀ from₀ n₀ v₀ marks seen order from n v =
     (v ≤ count)
-    × Pushing (λ (j : ℕ). joinedOf limits segment (columnsOf kinds numbers keep-outs) radius start (stateIn az el feed j)) count 0 order₀ from₀ 0 v marks seen order from n
+    × Pushing (λ (j : ℕ). joinedOf limits segment (columnsOf kinds numbers keep-outs) radius start (rowAt az el feed j)) count 0 order₀ from₀ 0 v marks seen order from n
 
 abbrev μ-milestones : tie.MeasureT-milestones
 μ-milestones limits segment kinds numbers keep-outs radius start az el feed count marks₀ seen₀ order₀ from₀ n₀ v₀ marks seen order from n v = count - v
@@ -60,7 +60,6 @@ milestones-less : tie.Need-milestones-less Inv-milestones μ-milestones
 milestones-less c = omega arith
 
 milestones-again : tie.Need-milestones-again Inv-milestones μ-milestones
-unfolding stateIn
 milestones-again c =
     let turn = c .before .before .before .before .before in
     let h = turn .before .milestones .inv .1 in

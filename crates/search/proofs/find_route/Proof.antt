@@ -18,7 +18,8 @@ use Rattle.route.specs.Written.{writtenOf}
 use Rattle.route.proofs.Stores.{nothing-written}
 use Rattle.roadmap.specs.Map.{Milestone}
 use Rattle.construct.specs.Construct.{joinedOf}
-use Rattle.roadmap.specs.View.{spanOf, stateIn, viewOf, milestonesOf}
+use Rattle.state.specs.Rows.{rowAt}
+use Rattle.roadmap.specs.View.{spanOf, viewOf, milestonesOf}
 use Rattle.roadmap.specs.declared.Roadmap.{Roadmap}
 use Rattle.search.specs.Search.{numbersOf, Place, pushOf, Found}
 use Rattle.search.specs.Query.{routeOf, queryOf}
@@ -69,7 +70,7 @@ module _ (h : tie.At-queue Inv-queue μ-queue) where
   abbrev reached : ℕ → Bool
   reached j =
       joinedOf (args .args .mount .limits) (args .args .mount .segment .value) columns (args .args .radius) (args .args .start)
-      (stateIn (map .az) (map .el) (map .feed) j)
+      (rowAt (map .az) (map .el) (map .feed) j)
 
   answered :
       (order from : List ℕ) (q₀ : List Place) (found : Found) →
@@ -141,7 +142,7 @@ same-length c =
     w .write .kept .1 .1 .1 .1 .1 .1 .1 .1 .0 ∙ ap length (turn .before .queue .inv .0)
 
 returns : tie.Need-returns Inv-queue μ-queue
-unfolding routeOf stateIn
+unfolding routeOf
 returns c =
     let w = c .before .before in
     let met = w .before .before .before .before .before .before .before .before in
@@ -179,7 +180,6 @@ queue-less c =
     omega (arith, few (turn .before .queue .inv .2))
 
 queue-again : tie.Need-queue-again Inv-queue μ-queue
-unfolding stateIn
 queue-again c =
     let missed = c .before .before .before .before .before .before .before in
     let tested = missed .before in

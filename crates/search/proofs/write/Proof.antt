@@ -8,14 +8,14 @@ use lib.ListN.{length, getD}
 use Rattle.tree.specs.Table.{Nodes}
 use Rattle.route.specs.Path.{pathOf}
 use Rattle.route.specs.Written.{writtenOf}
-use Rattle.roadmap.specs.View.{stateIn}
+use Rattle.state.specs.Rows.{rowAt}
 use Rattle.search.specs.Queue.{Numbers}
 use Rattle.search.proofs.Trees.{Growing, growing-starts, growing-more, grown-all}
 use Rattle.search.proofs.write.Statement.{statement}
 use Rattle.search.proofs.write.Tie as tie
 
 abbrev Inv-places : tie.InvT-places
-Inv-places az el feed order from n p route tree₀ k₀ tree k = (k ≤ n) × (n ≤ 256) × Numbers n order × Growing (stateIn az el feed) order from tree₀ tree k
+Inv-places az el feed order from n p route tree₀ k₀ tree k = (k ≤ n) × (n ≤ 256) × Numbers n order × Growing (rowAt az el feed) order from tree₀ tree k
 
 abbrev μ-places : tie.MeasureT-places
 μ-places az el feed order from n p route tree₀ k₀ tree k = n - k
@@ -100,7 +100,6 @@ places-less : tie.Need-places-less Inv-places μ-places
 places-less c = omega arith
 
 places-again : tie.Need-places-again Inv-places μ-places
-unfolding stateIn
 places-again c =
     let turn = c .before .before .before .before .before in
     let h = turn .before .places .inv in

@@ -2,7 +2,8 @@
 use Prim.Native.Nat.{min}
 use mathlib.Core.Path.{_≡_, _∙_}
 use native.Mathlib.Omega.{arith}
-use Rattle.roadmap.specs.View.{stateIn, milestonesOf}
+use Rattle.state.specs.Rows.{rowAt}
+use Rattle.roadmap.specs.View.{milestonesOf}
 use Rattle.roadmap.proofs.View.{view-long, state-at, nothing-at}
 use borrow.Author.Needs.{needs}
 use Rattle.roadmap.proofs.Roadmap.milestone.Statement.{statement}
@@ -35,7 +36,7 @@ element-copy-out-t18 : tie.Need-element-copy-out-t18
 element-copy-out-t18 c = omega (arith, most (c .before .before .before))
 
 returns : tie.Need-returns
-unfolding milestonesOf stateIn
+unfolding milestonesOf
 returns c =
     let inside = c .before .before .before in
     let m = most (inside .before) in
