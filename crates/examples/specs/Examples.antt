@@ -38,11 +38,11 @@ use Rattle.rrt.specs.Planner.{newOf, setupOf}
 use Rattle.rrt_run.specs.Run.{afterOf, runOf}
 use Rattle.rrt.specs.Solve.{solveOf}
 use Rattle.extend.specs.Extend.{afterStep, extendOf}
-use Rattle.connect.specs.Turn.{connectEnds, byVerdict, turnOf}
-use Rattle.connect.specs.Round.{Trees, roundOf}
-use Rattle.connect.specs.Ending.{endPath}
+use Rattle.turn.specs.Turn.{connectEnds, byVerdict, turnOf}
+use Rattle.round.specs.Round.{Trees, roundOf}
+use Rattle.ending.specs.Ending.{endPath}
 use Rattle.rrt_connect.specs.Planner as planner
-use Rattle.rrt_connect.specs.Run as run
+use Rattle.connect_run.specs.Run as run
 use Rattle.rrt_connect.specs.Solve as connect
 use Rattle.neighbours.specs.Neighbours.{neighboursFrom, neighboursOf}
 use Rattle.choice.specs.Parent.{costVia, isBetter, chooseFrom, chooseOf}

@@ -1,6 +1,5 @@
 -- The crate's laws that belong to no one function.
 pub mod Views
 pub mod Setups
-pub mod Runs
 pub mod Solves
 pub mod Adds

@@ -13,10 +13,10 @@ use Rattle.plan.specs.Plan.{Plan, planFrom, set}
 use Rattle.plan.specs.Solve.{Ended, Outcome, refusedOf, endedOf}
 use Rattle.plan.proofs.Answers as answers
 use Rattle.rrt_connect.specs.declared.RrtConnect.{RrtConnect}
-use Rattle.rrt_connect.specs.declared.run.Ran.{Ran}
-use Rattle.connect.specs.Round.{Trees}
+use Rattle.connect_run.specs.declared.Ran.{Ran}
+use Rattle.round.specs.Round.{Trees}
 use Rattle.rrt_connect.specs.Planner.{usableOf, treesOf, plannerOf}
-use Rattle.rrt_connect.specs.Run.{Runs}
+use Rattle.connect_run.specs.Run.{Runs}
 use Rattle.rrt_connect.specs.Solve.{needed, runFrom, solveOf}
 use Rattle.rrt_connect.proofs.Views.{view-set, view-unset, usable-ready, usable-counts}
 

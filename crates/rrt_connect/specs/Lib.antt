@@ -1,3 +1,2 @@
 pub mod Planner
-pub mod Run
 pub mod Solve

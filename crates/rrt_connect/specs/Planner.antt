@@ -17,7 +17,7 @@ use Rattle.plan.specs.Plan.{Plan, planFrom, planUnder, Planner, unset, set}
 use Rattle.plan.specs.Setup as setup
 use Rattle.plan.specs.Setup.{Told, goodSetup, setupWith}
 use Rattle.plan.specs.KeepOut.{addWith}
-use Rattle.connect.specs.Round.{Trees, sizeOf}
+use Rattle.round.specs.Round.{Trees, sizeOf}
 use Rattle.rrt_connect.specs.declared.RrtConnect.{RrtConnect}
 use Rattle.rrt_connect.specs.declared.Answered.{Answered}
 

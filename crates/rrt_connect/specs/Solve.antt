@@ -5,9 +5,9 @@ use lib.Ieee.{Float}
 use Rattle.state.specs.declared.State.{State}
 use Rattle.plan.specs.Plan.{Plan}
 use Rattle.plan.specs.Solve.{Ended, Outcome, solveWith}
-use Rattle.connect.specs.Round.{Trees}
+use Rattle.round.specs.Round.{Trees}
 use Rattle.rrt_connect.specs.Planner.{View, plannerOf}
-use Rattle.rrt_connect.specs.Run.{runOf}
+use Rattle.connect_run.specs.Run.{runOf}
 use Rattle.rrt_connect.specs.declared.Solved.{Solved}
 
 abbrev pub solvedOf : Solved → List Float → Outcome Plan Trees

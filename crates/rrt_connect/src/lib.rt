@@ -14,8 +14,6 @@ ghost use mathlib.Core.Path.{_≡_};
 ghost use Rattle.rrt_connect.specs.Planner.{usableOf, plannerOf, newOf, setupOf, addOf, answeredOf, startSizeOf, goalSizeOf, startNodeOf, goalNodeOf};
 ghost use Rattle.rrt_connect.specs.Solve.{solvedOf, solveOf};
 
-mod run;
-
 // What an accepted setup gave, and the trees that have grown since.
 pub struct RrtConnect {
     ready: bool,
@@ -138,7 +136,7 @@ impl RrtConnect {
                 };
             }
             if good {
-                let ran = run::run(
+                let ran = connect_run::run(
                     self.mount,
                     self.max_distance,
                     self.goal,

@@ -1,3 +1,0 @@
-pub mod Turn
-pub mod Round
-pub mod Ending

@@ -1,0 +1,3 @@
+-- The crate's laws that belong to no one function.
+pub mod Connecting
+pub mod Turning
