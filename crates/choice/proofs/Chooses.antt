@@ -10,7 +10,7 @@ use lib.Ieee.{Float, nan, binary64, add, lt}
 use Rattle.laws.specs.Rest.{rest-more, rest-none}
 use Rattle.state.specs.Distance.{distanceOf}
 use Rattle.state.specs.declared.State.{State}
-use Rattle.state.specs.declared.Limits.{Limits}
+use Rattle.fields.specs.declared.Limits.{Limits}
 use Rattle.keep_out.specs.declared.KeepOut.{KeepOut}
 use Rattle.motion.specs.Accepts.{acceptsOf}
 use Rattle.state.specs.Rows.{rowAt}

@@ -7,7 +7,7 @@ use lib.ListN.{getD}
 use lib.Ieee.{Float, nan, binary64, add, lt}
 use Rattle.state.specs.Distance.{distanceOf}
 use Rattle.state.specs.declared.State.{State}
-use Rattle.state.specs.declared.Limits.{Limits}
+use Rattle.fields.specs.declared.Limits.{Limits}
 use Rattle.keep_out.specs.declared.KeepOut.{KeepOut}
 use Rattle.motion.specs.Accepts.{acceptsOf}
 use Rattle.tree.specs.Table.{stateAt}

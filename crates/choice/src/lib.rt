@@ -1,5 +1,5 @@
 // The choice of a new node's parent (document 01, "RRT*"): the one that costs least.
-use state::Limits;
+use fields::Limits;
 use state::State;
 ghost use mathlib.Core.Path.{_≡_};
 ghost use Prim.Native.Nat.{_≤_, _<_};

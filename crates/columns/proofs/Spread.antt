@@ -10,9 +10,9 @@ use lib.ListN.{length, getD, set, take, drop}
 use lib.Seq.{drop-cons}
 use lib.Ieee.{Float}
 use Rattle.laws.specs.Rest.{within, take-most}
-use Rattle.keep_out.specs.Table.{heldOf, keepOutsOf}
-use Rattle.keep_out.specs.declared.KeepOuts.{KeepOuts}
-use Rattle.keep_out.specs.declared.Slot.{Slot}
+use Rattle.keep_out_table.specs.Table.{heldOf, keepOutsOf}
+use Rattle.keep_out_table.specs.declared.KeepOuts.{KeepOuts}
+use Rattle.keep_out_table.specs.declared.Slot.{Slot}
 use Rattle.columns.specs.Rows.{rowOf, keepOutAt}
 use Rattle.columns.specs.declared.Row.{Row}
 use Rattle.columns.proofs.Rows.{sixOf, stored-here, stored-before}

@@ -1,7 +1,7 @@
 // The keep-outs of a table as columns of plain numbers. A table of enums can only be passed by value, a copy of 1.8 KB a call;
 // columns are lent, so a planner spreads its table once a call, and the motion check reads it without a copy.
 use keep_out::KeepOut;
-use keep_out::KeepOuts;
+use keep_out_table::KeepOuts;
 use state::State;
 ghost use mathlib.Core.Path.{_≡_};
 ghost use Prim.Native.Nat.{_<_};

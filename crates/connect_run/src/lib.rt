@@ -1,9 +1,9 @@
 // A run over a list of samples (document 01, "RRT-Connect"): each makes a round, until one ends the run or the list is used up.
 use answer::Answer;
 use columns::Columns;
+use fields::Goal;
+use fields::Length;
 use motion::Mount;
-use state::Goal;
-use state::Length;
 use state::State;
 use tree::Tree;
 ghost use Prim.Native.Nat.{_≤_, _<_};

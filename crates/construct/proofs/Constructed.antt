@@ -11,7 +11,7 @@ use lib.Ieee.{Float, nan, lt}
 use Rattle.answer.specs.declared.Answer.the-variants.{Done}
 use Rattle.state.specs.Distance.{distanceOf}
 use Rattle.state.specs.declared.State.{State}
-use Rattle.state.specs.declared.Limits.{Limits}
+use Rattle.fields.specs.declared.Limits.{Limits}
 use Rattle.keep_out.specs.declared.KeepOut.{KeepOut}
 use Rattle.motion.specs.Valid.{validOf}
 use Rattle.motion.specs.Accepts.{acceptsOf}

@@ -9,7 +9,7 @@ use lib.ListN.{length, drop, getD, set, length-set}
 use lib.Ieee.{Float, nan}
 use Rattle.answer.specs.declared.Answer.the-variants.{Done, Full}
 use Rattle.state.specs.declared.State.{State}
-use Rattle.state.specs.declared.Limits.{Limits}
+use Rattle.fields.specs.declared.Limits.{Limits}
 use Rattle.keep_out.specs.declared.KeepOut.{KeepOut}
 use Rattle.motion.specs.Valid.{validOf}
 use Rattle.samples.specs.Samples.{samplesOf}

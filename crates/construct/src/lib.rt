@@ -1,14 +1,14 @@
 // The construction of a roadmap of samples (document 01, "PRM construction").
 use answer::Answer;
 use columns::Columns;
+use fields::Limits;
 use motion::Mount;
 use roadmap::Roadmap;
-use state::Limits;
 use state::State;
 ghost use mathlib.Core.Path.{_≡_};
 ghost use Prim.Native.Nat.{ℕ, _<_};
 ghost use lib.ListN.{length};
-ghost use Rattle.keep_out.specs.Table.{keepOutsOf};
+ghost use Rattle.keep_out_table.specs.Table.{keepOutsOf};
 ghost use Rattle.columns.specs.Columns.{columnsOf};
 ghost use Rattle.samples.specs.Samples.{samplesOf};
 ghost use Rattle.state.specs.Rows.{rowAt};

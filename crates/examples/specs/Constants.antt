@@ -4,6 +4,7 @@ use mathlib.Core.List.{List, [], _∷_}
 use lib.Dec.{T}
 use lib.Ieee.{Float, round, ofBits, toBits}
 use Rattle.state.specs.Ranges as state
+use Rattle.fields.specs.Ranges as fields
 use Rattle.keep_out.specs.Good as keepOut
 use Rattle.motion.specs.Points as motion
 use Rattle.examples.specs.Words.{ratio, whole, minus, same}
@@ -23,11 +24,11 @@ constants =
     state.lowest is minus 1024
     ∷ state.highest is whole 1024
     -- segment length, max_distance, search_radius and connection_radius lie from 0.001 to 4,096
-    ∷ state.leastLength is ratio 1 1000
-    ∷ state.mostLength is whole 4096
+    ∷ fields.leastLength is ratio 1 1000
+    ∷ fields.mostLength is whole 4096
     -- a goal's radius is 0 to 4,096
-    ∷ state.leastRadius is whole 0
-    ∷ state.mostRadius is whole 4096
+    ∷ fields.leastRadius is whole 0
+    ∷ fields.mostRadius is whole 4096
     -- a disc's radius is 0 to 1,024
     ∷ keepOut.leastRadius is whole 0
     ∷ keepOut.mostRadius is whole 1024

@@ -8,15 +8,17 @@ use lib.ListN.{length, replicate}
 use lib.Ieee.{Float, add, sub, mul, div, lt, le, ofInt, ofBits, toBits}
 use Rattle.answer.specs.Number.{numberOf}
 use Rattle.answer.specs.declared.Answer.{Answer}
-use Rattle.state.specs.Ranges.{insideOf, withinOf, coordinateOf, goodState, atMostOf, goodSpan, goodLimits, goodLength, goodGoal}
+use Rattle.state.specs.Ranges.{insideOf, withinOf, coordinateOf, goodState, atMostOf, goodSpan}
+use Rattle.fields.specs.Ranges.{goodLimits, goodLength, goodGoal}
 use Rattle.state.specs.Distance.{apartOf, widerOf, distanceOf}
 use Rattle.state.specs.Steering.{interpolateOf, steerBy, steerOf}
-use Rattle.state.specs.Satisfied.{satisfiedOf}
+use Rattle.fields.specs.Satisfied.{satisfiedOf}
 use Rattle.state.specs.declared.State.{State}
-use Rattle.state.specs.declared.Goal.{Goal}
+use Rattle.fields.specs.declared.Goal.{Goal}
 use Rattle.keep_out.specs.Covers.{coversOf, coveredOf}
-use Rattle.keep_out.specs.Good.{goodKeepOut, allGood, goodTable}
-use Rattle.keep_out.specs.Table.{keepOutsOf, emptyTable}
+use Rattle.keep_out.specs.Good.{goodKeepOut}
+use Rattle.keep_out_table.specs.Good.{allGood, goodTable}
+use Rattle.keep_out_table.specs.Table.{keepOutsOf, emptyTable}
 use Rattle.keep_out.specs.declared.KeepOut.{KeepOut}
 use Rattle.keep_out.specs.declared.KeepOut.the-variants.{Disc}
 use Rattle.motion.specs.Valid.{validOf, goodMount}

@@ -1,5 +1,5 @@
 // One step of a tree toward a target, appended in place (document 01, "RRT-Connect").
-use state::Limits;
+use fields::Limits;
 use state::State;
 use tree::Tree;
 ghost use Prim.Native.Nat.{_≤_, _<_};

@@ -6,7 +6,7 @@ use mathlib.Core.Path.{_≡_, refl, sym, _∙_, ap}
 use borrow.Author.Tests.{eq-eqb, ne-eqb}
 use lib.Ieee.{Float}
 use Rattle.answer.specs.Number.{numberOf}
-use Rattle.keep_out.specs.declared.KeepOuts.{KeepOuts}
+use Rattle.keep_out_table.specs.declared.KeepOuts.{KeepOuts}
 use Rattle.plan.specs.Plan.{Planner, unset}
 use Rattle.plan.specs.Setup.{Told}
 use Rattle.plan.specs.Solve.{Outcome}

@@ -8,9 +8,9 @@ use native.Mathlib.Omega.{arith}
 use lib.ListN.{length, getD, set}
 use lib.Seq.{getD-set-same, getD-set-other}
 use lib.Ieee.{Float}
-use Rattle.keep_out.specs.Table.{heldOf, keepOutsOf, emptyTable}
+use Rattle.keep_out_table.specs.Table.{heldOf, keepOutsOf, emptyTable}
 use Rattle.keep_out.specs.declared.KeepOut.{KeepOut}
-use Rattle.keep_out.specs.declared.Slot.{Slot}
+use Rattle.keep_out_table.specs.declared.Slot.{Slot}
 use Rattle.columns.specs.Rows.{keepOutAt}
 use Rattle.columns.specs.Columns.{columnsFrom, columnsOf}
 use Rattle.columns.proofs.Spread.{Rowed, spread-is}

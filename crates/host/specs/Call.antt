@@ -8,8 +8,8 @@ use lib.Dec.{eqb}
 use lib.Ieee.{Float}
 use Rattle.answer.specs.Number.{numberOf}
 use Rattle.answer.specs.declared.Answer.the-variants.{BadInput}
-use Rattle.state.specs.declared.Length.{Length}
-use Rattle.keep_out.specs.declared.KeepOuts.{KeepOuts}
+use Rattle.fields.specs.declared.Length.{Length}
+use Rattle.keep_out_table.specs.declared.KeepOuts.{KeepOuts}
 use Rattle.tree.specs.Table.{Nodes}
 use Rattle.plan.specs.Plan.{Plan, Planner, unset}
 use Rattle.plan.specs.Setup.{Told}

@@ -4,8 +4,8 @@ use mathlib.Core.List.{List}
 use lib.ListN.{getD}
 use lib.Ieee.{Float, nan}
 use Rattle.state.specs.declared.State.{State}
-use Rattle.state.specs.declared.Limits.{Limits}
-use Rattle.state.specs.declared.Goal.{Goal}
+use Rattle.fields.specs.declared.Limits.{Limits}
+use Rattle.fields.specs.declared.Goal.{Goal}
 
 -- limits (low then high, per axis), segment length, max_distance, start, goal centre, goal radius
 abbrev pub number : List Float → ℕ → Float

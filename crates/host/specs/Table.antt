@@ -6,8 +6,8 @@ use mathlib.Core.Path.{_≡_}
 use lib.Dec.{leb}
 use lib.ListN.{getD}
 use lib.Ieee.{Float}
-use Rattle.keep_out.specs.Table.{keepOutsOf}
-use Rattle.keep_out.specs.declared.KeepOuts.{KeepOuts}
+use Rattle.keep_out_table.specs.Table.{keepOutsOf}
+use Rattle.keep_out_table.specs.declared.KeepOuts.{KeepOuts}
 use Rattle.columns.specs.Columns.{columnsOf}
 
 -- the keep-outs of the first count rows, and the count as it came: a count beyond the rows is the setup's to refuse

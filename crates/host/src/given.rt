@@ -1,8 +1,8 @@
 // What the host gives, read from plain numbers: the setup's fields, and the keep-outs by kinds and rows.
-use keep_out::KeepOuts;
-use keep_out::Slot;
-use state::Goal;
-use state::Limits;
+use fields::Goal;
+use fields::Limits;
+use keep_out_table::KeepOuts;
+use keep_out_table::Slot;
 use state::State;
 ghost use mathlib.Core.Path.{_≡_};
 ghost use Prim.Native.Nat.{_+_, min};

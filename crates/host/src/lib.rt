@@ -1,8 +1,8 @@
 // The planners for a host in C or Rust, and for the benchmark: a setup and a solve in one call on plain numbers.
+use fields::Length;
 use rrt::Rrt;
 use rrt_connect::RrtConnect;
 use rrt_star::RrtStar;
-use state::Length;
 ghost use mathlib.Core.Path.{_≡_};
 ghost use Rattle.host.specs.Call.{Called, rrtCall, connectCall, starCall};
 

@@ -1,7 +1,7 @@
 // Keep-outs that come after the construction, as a machine that is parked among the milestones. They stand in the same columns as the setup's,
 // in the rows after those.
 use answer::Answer;
-use keep_out::KeepOuts;
+use keep_out_table::KeepOuts;
 use prm::Answered;
 use prm::Constructed;
 use prm::Prm;

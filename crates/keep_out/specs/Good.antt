@@ -1,17 +1,13 @@
 -- Document 01, "The mount", Keep-outs: their numbers obey the coordinate range, a box's low is at most its high, a disc's radius is
--- from 0 to 1,024, and there are at most 32.
-use mathlib.Core.Bool.{Bool, true, _&&_, cond}
-use mathlib.Core.List.{List, [], _∷_}
-use lib.Dec.{leb}
+-- from 0 to 1,024.
+use mathlib.Core.Bool.{Bool, _&&_, cond}
 use lib.Ieee.{Float, binary64, ofBits}
 use Rattle.state.specs.Ranges.{insideOf, coordinateOf, goodSpan}
 use Rattle.state.specs.declared.State.{State}
-use Rattle.keep_out.specs.Table.{keepOutsOf}
 use Rattle.keep_out.specs.declared.KeepOut.{KeepOut}
 use Rattle.keep_out.specs.declared.KeepOut.the-variants.{Box, Disc, Floor}
 use Rattle.keep_out.specs.declared.KeepOutMade.{KeepOutMade}
 use Rattle.keep_out.specs.declared.KeepOutMade.the-variants as made
-use Rattle.keep_out.specs.declared.KeepOuts.{KeepOuts}
 
 -- 0 and 1,024
 abbrev pub leastRadius : Float
@@ -39,10 +35,3 @@ discOf az el r = madeOf (Disc az el r)
 
 abbrev pub floorOf : Float → KeepOutMade
 floorOf el = madeOf (Floor el)
-
-unfoldable pub allGood : List KeepOut → Bool
-allGood [] = true
-allGood (k ∷ ks) = goodKeepOut k && allGood ks
-
-unfoldable pub goodTable : KeepOuts → Bool
-goodTable t = leb (t .count) 32 && allGood (keepOutsOf t)

@@ -9,7 +9,7 @@ use borrow.Author.Tests.{le-leb, lt-leb}
 use lib.Dec.{leb}
 use lib.Ieee.{Float}
 use Rattle.state.specs.declared.State.{State}
-use Rattle.state.specs.declared.Limits.{Limits}
+use Rattle.fields.specs.declared.Limits.{Limits}
 use Rattle.keep_out.specs.declared.KeepOut.{KeepOut}
 use Rattle.motion.specs.declared.Steps.the-variants.{Count, Many}
 use Rattle.motion.specs.Valid.{validOf}

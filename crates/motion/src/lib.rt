@@ -1,14 +1,14 @@
 // The mount with its limits, segment length and keep-outs, and the motion check (document 01, "Motion check").
 use columns::Columns;
-use keep_out::KeepOuts;
-use state::Length;
-use state::Limits;
+use fields::Length;
+use fields::Limits;
+use keep_out_table::KeepOuts;
 use state::State;
 ghost use mathlib.Core.Bool.{true};
 ghost use mathlib.Core.Path.{_≡_};
 ghost use Prim.Native.Nat.{_≤_};
 ghost use lib.Ieee.{le};
-ghost use Rattle.keep_out.specs.Table.{keepOutsOf};
+ghost use Rattle.keep_out_table.specs.Table.{keepOutsOf};
 ghost use Rattle.columns.specs.Columns.{columnsOf};
 ghost use Rattle.motion.specs.Valid.{goodMount, validOf};
 ghost use Rattle.motion.specs.Points.{mostPoints, Least, stepsOf, pointAt};

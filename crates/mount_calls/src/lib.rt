@@ -1,13 +1,13 @@
 // The calls on the mount alone: its setup, and the six calls on states.
 use answer::Answer;
+use fields::Length;
+use fields::Limits;
 use grammar::Verb;
-use keep_out::KeepOuts;
+use keep_out_table::KeepOuts;
 use motion::Mount;
 use motion::Steps;
 use output::replies;
 use script::given;
-use state::Length;
-use state::Limits;
 use state::State;
 
 // The mount of the last accepted setup, if there was one.

@@ -12,11 +12,11 @@ use lib.Seq.{take-suc-set}
 use Rattle.laws.specs.Order.{whether, clash}
 use Rattle.answer.specs.declared.Answer.the-variants.{Done, Uninitialised, BadInput, Full}
 use Rattle.keep_out.specs.Good.{goodKeepOut}
-use Rattle.keep_out.specs.Table.{heldOf, keepOutsOf, withOf}
+use Rattle.keep_out_table.specs.Table.{heldOf, keepOutsOf, withOf}
 use Rattle.keep_out.specs.declared.KeepOut.{KeepOut}
-use Rattle.keep_out.specs.declared.KeepOuts.{KeepOuts}
-use Rattle.keep_out.specs.declared.Slot.{Slot}
-use Rattle.keep_out.specs.declared.Longer as keep-out
+use Rattle.keep_out_table.specs.declared.KeepOuts.{KeepOuts}
+use Rattle.keep_out_table.specs.declared.Slot.{Slot}
+use Rattle.keep_out_table.specs.declared.Longer as keep-out
 use Rattle.plan.specs.Plan as plan
 use Rattle.plan.specs.Plan.{Planner, unset}
 use Rattle.plan.specs.KeepOut.{Longer, longerOf, addWith}

@@ -1,10 +1,11 @@
 -- A setup's verdict from its tests.
 use mathlib.Core.Bool.{Bool, true, false}
 use mathlib.Core.Path.{_≡_}
-use Rattle.state.specs.Ranges.{goodState, goodLength, goodGoal}
+use Rattle.state.specs.Ranges.{goodState}
+use Rattle.fields.specs.Ranges.{goodLength, goodGoal}
 use Rattle.state.specs.declared.State.{State}
-use Rattle.state.specs.declared.Length.{Length}
-use Rattle.state.specs.declared.Goal.{Goal}
+use Rattle.fields.specs.declared.Length.{Length}
+use Rattle.fields.specs.declared.Goal.{Goal}
 use Rattle.motion.specs.Valid.{goodMount}
 use Rattle.motion.specs.declared.Mount.{Mount}
 use Rattle.plan.specs.Setup.{goodSetup}

@@ -7,7 +7,7 @@ use lib.ListN.{length}
 use Rattle.answer.specs.declared.Answer.{Answer}
 use Rattle.answer.specs.declared.Answer.the-variants.{Done, Uninitialised, BadInput, Full}
 use Rattle.keep_out.specs.Good.{goodKeepOut}
-use Rattle.keep_out.specs.Table.{keepOutsOf}
+use Rattle.keep_out_table.specs.Table.{keepOutsOf}
 use Rattle.keep_out.specs.declared.KeepOut.{KeepOut}
 use Rattle.plan.specs.Plan.{Planner, unset, set}
 use Rattle.plan.specs.Setup.{Told}

@@ -1,10 +1,10 @@
 -- What a planner is to its caller, whatever its plan and its tables are.
 use mathlib.Core.List.{List}
 use lib.Ieee.{Float}
-use Rattle.state.specs.declared.Limits.{Limits}
-use Rattle.state.specs.declared.Length.{Length}
-use Rattle.state.specs.declared.Goal.{Goal}
-use Rattle.keep_out.specs.Table.{keepOutsOf}
+use Rattle.fields.specs.declared.Limits.{Limits}
+use Rattle.fields.specs.declared.Length.{Length}
+use Rattle.fields.specs.declared.Goal.{Goal}
+use Rattle.keep_out_table.specs.Table.{keepOutsOf}
 use Rattle.keep_out.specs.declared.KeepOut.{KeepOut}
 use Rattle.motion.specs.declared.Mount.{Mount}
 

@@ -4,10 +4,11 @@ use mathlib.Core.Bool.{Bool, _&&_, cond}
 use lib.Dec.{ltb, leb}
 use Rattle.answer.specs.declared.Answer.{Answer}
 use Rattle.answer.specs.declared.Answer.the-variants.{Done, BadInput}
-use Rattle.state.specs.Ranges.{goodState, goodLength, goodGoal}
+use Rattle.state.specs.Ranges.{goodState}
+use Rattle.fields.specs.Ranges.{goodLength, goodGoal}
 use Rattle.state.specs.declared.State.{State}
-use Rattle.state.specs.declared.Length.{Length}
-use Rattle.state.specs.declared.Goal.{Goal}
+use Rattle.fields.specs.declared.Length.{Length}
+use Rattle.fields.specs.declared.Goal.{Goal}
 use Rattle.motion.specs.Valid.{goodMount}
 use Rattle.motion.specs.declared.Mount.{Mount}
 use Rattle.plan.specs.Plan.{Planner, set}

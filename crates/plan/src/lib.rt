@@ -1,14 +1,14 @@
 // What the planners have in common: the numbers that a setup takes, and when a planner can be used.
 use answer::Answer;
+use fields::Goal;
+use fields::Length;
 use keep_out::KeepOut;
-use keep_out::KeepOuts;
+use keep_out_table::KeepOuts;
 use motion::Mount;
-use state::Goal;
-use state::Length;
 use state::State;
 use tree::Tree;
 ghost use mathlib.Core.Path.{_≡_};
-ghost use Rattle.keep_out.specs.Table.{keepOutsOf};
+ghost use Rattle.keep_out_table.specs.Table.{keepOutsOf};
 ghost use Rattle.plan.specs.Setup.{goodSetup, usableOf};
 ghost use Rattle.plan.specs.KeepOut.{moreOf, longerOf};
 

@@ -4,7 +4,7 @@ use mathlib.Core.List.{List}
 use mathlib.Core.Path.{_≡_}
 use lib.Ieee.{Float}
 use Rattle.answer.specs.declared.Answer.the-variants.{Uninitialised, BadInput}
-use Rattle.keep_out.specs.Table.{keepOutsOf}
+use Rattle.keep_out_table.specs.Table.{keepOutsOf}
 use Rattle.samples.specs.Samples.{goodSamples, samplesOf}
 use Rattle.plan.specs.Plan.{set}
 use Rattle.construct.specs.Construct as roadmap

@@ -16,7 +16,7 @@ use Rattle.keep_out.specs.Good.{goodKeepOut}
 use Rattle.keep_out.specs.declared.KeepOut.{KeepOut}
 use Rattle.samples.specs.Samples.{goodSamples, samplesOf}
 use Rattle.state.specs.declared.State.{State}
-use Rattle.state.specs.declared.Goal.{Goal}
+use Rattle.fields.specs.declared.Goal.{Goal}
 use Rattle.plan.specs.Plan.{set}
 use Rattle.plan.specs.KeepOut.{longerOf}
 use Rattle.roadmap.specs.Map.{Milestone}

@@ -8,7 +8,7 @@ use borrow.Author.Tests.{lt-ltb, le-ltb, eq-eqb, ne-eqb}
 use lib.ListN.{length}
 use lib.Ieee.{Float}
 use Rattle.answer.specs.declared.Answer.the-variants.{Done, Uninitialised, Unsampled, InvalidStart, NoSolution, Room}
-use Rattle.keep_out.specs.Table.{keepOutsOf}
+use Rattle.keep_out_table.specs.Table.{keepOutsOf}
 use Rattle.state.specs.declared.State.{State}
 use Rattle.motion.specs.Valid.{validOf}
 use Rattle.route.specs.Written.{writtenOf}

@@ -4,12 +4,13 @@ use mathlib.Core.List.{[]}
 use mathlib.Core.Path.{_≡_, refl, sym, _∙_, ap}
 use Rattle.laws.specs.Cases.{and-true, and-left, and-right}
 use Rattle.answer.specs.declared.Answer.the-variants.{Done, Uninitialised, BadInput}
-use Rattle.state.specs.Ranges.{goodState, goodGoal}
+use Rattle.state.specs.Ranges.{goodState}
+use Rattle.fields.specs.Ranges.{goodGoal}
 use Rattle.state.specs.declared.State.{State}
-use Rattle.state.specs.declared.Limits.{Limits}
-use Rattle.state.specs.declared.Length.{Length}
-use Rattle.state.specs.declared.Goal.{Goal}
-use Rattle.keep_out.specs.declared.KeepOuts.{KeepOuts}
+use Rattle.fields.specs.declared.Limits.{Limits}
+use Rattle.fields.specs.declared.Length.{Length}
+use Rattle.fields.specs.declared.Goal.{Goal}
+use Rattle.keep_out_table.specs.declared.KeepOuts.{KeepOuts}
 use Rattle.motion.specs.declared.Mount.{Mount}
 use Rattle.plan.specs.Plan.{set}
 use Rattle.plan.specs.Setup.{goodSetup}

@@ -5,14 +5,15 @@ use mathlib.Core.List.{List, []}
 use lib.ListN.{length}
 use lib.Ieee.{Float}
 use Rattle.answer.specs.declared.Answer.the-variants.{Done, Uninitialised, BadInput}
-use Rattle.state.specs.Ranges.{goodState, goodGoal}
+use Rattle.state.specs.Ranges.{goodState}
+use Rattle.fields.specs.Ranges.{goodGoal}
 use Rattle.state.specs.declared.State.{State}
-use Rattle.state.specs.declared.Limits.{Limits}
-use Rattle.state.specs.declared.Length.{Length}
-use Rattle.state.specs.declared.Goal.{Goal}
-use Rattle.keep_out.specs.Table.{keepOutsOf}
+use Rattle.fields.specs.declared.Limits.{Limits}
+use Rattle.fields.specs.declared.Length.{Length}
+use Rattle.fields.specs.declared.Goal.{Goal}
+use Rattle.keep_out_table.specs.Table.{keepOutsOf}
 use Rattle.keep_out.specs.declared.KeepOut.{KeepOut}
-use Rattle.keep_out.specs.declared.KeepOuts.{KeepOuts}
+use Rattle.keep_out_table.specs.declared.KeepOuts.{KeepOuts}
 use Rattle.motion.specs.declared.Mount.{Mount}
 use Rattle.plan.specs.Plan.{Planner, unset, set}
 use Rattle.plan.specs.Setup.{Told, goodSetup, setupWith}

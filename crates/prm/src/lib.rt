@@ -1,13 +1,13 @@
 // PRM (document 01, "PRM construction", "PRM query" and "Sizes and answers"): a roadmap of valid samples, and queries over it.
 use answer::Answer;
+use fields::Goal;
+use fields::Length;
+use fields::Limits;
 use keep_out::KeepOut;
-use keep_out::KeepOuts;
+use keep_out_table::KeepOuts;
 use motion::Mount;
 use roadmap::MilestoneAt;
 use roadmap::Roadmap;
-use state::Goal;
-use state::Length;
-use state::Limits;
 use state::State;
 ghost use mathlib.Core.Path.{_≡_};
 ghost use Rattle.prm.specs.Planner.{plannerOf, newOf, setupOf, answeredOf, goalsOf, sizeOf, milestoneOf, legOf};

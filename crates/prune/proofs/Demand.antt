@@ -10,7 +10,7 @@ use lib.ListN.{length}
 use lib.Ieee.{Float}
 use Rattle.answer.specs.declared.Answer.the-variants.{Done}
 use Rattle.state.specs.declared.State.{State}
-use Rattle.state.specs.declared.Limits.{Limits}
+use Rattle.fields.specs.declared.Limits.{Limits}
 use Rattle.keep_out.specs.Covers.{coversOf}
 use Rattle.keep_out.specs.declared.KeepOut.{KeepOut}
 use Rattle.motion.specs.Valid.{validOf}

@@ -1,6 +1,6 @@
 // The rewiring around a new node (document 01, "RRT*"): neighbours that are cheaper under it move.
 use choice::Choice;
-use state::Limits;
+use fields::Limits;
 use state::State;
 ghost use mathlib.Core.Path.{_≡_};
 ghost use Prim.Native.Nat.{_≤_, _<_, _+_};

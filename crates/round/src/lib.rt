@@ -1,6 +1,6 @@
 // One sample on both trees (document 01, "RRT-Connect"): the goal tree's root, or a turn of the tree that is to grow.
-use state::Goal;
-use state::Limits;
+use fields::Goal;
+use fields::Limits;
 use state::State;
 use tree::Tree;
 use turn::Ends;

@@ -1,11 +1,11 @@
 // RRT (document 01, "RRT" and "Sizes and answers"): one tree from the start, a sample at a time, until a new node satisfies the goal.
 use answer::Answer;
+use fields::Goal;
+use fields::Length;
+use fields::Limits;
 use keep_out::KeepOut;
-use keep_out::KeepOuts;
+use keep_out_table::KeepOuts;
 use motion::Mount;
-use state::Goal;
-use state::Length;
-use state::Limits;
 use state::State;
 use tree::NodeAt;
 use tree::Tree;

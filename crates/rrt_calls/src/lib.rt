@@ -1,6 +1,6 @@
 // The calls on the RRT planner.
 use grammar::Verb;
-use keep_out::KeepOuts;
+use keep_out_table::KeepOuts;
 use output::nodes;
 use output::replies;
 use output::route_buffer;

@@ -4,11 +4,11 @@ use Prim.Native.Nat.{ℕ}
 use mathlib.Core.Bool.{Bool, _&&_, cond}
 use lib.Dec.{leb}
 use Rattle.state.specs.declared.State.{State}
-use Rattle.state.specs.declared.Limits.{Limits}
-use Rattle.state.specs.declared.Length.{Length}
-use Rattle.state.specs.declared.Goal.{Goal}
+use Rattle.fields.specs.declared.Limits.{Limits}
+use Rattle.fields.specs.declared.Length.{Length}
+use Rattle.fields.specs.declared.Goal.{Goal}
 use Rattle.keep_out.specs.declared.KeepOut.{KeepOut}
-use Rattle.keep_out.specs.declared.KeepOuts.{KeepOuts}
+use Rattle.keep_out_table.specs.declared.KeepOuts.{KeepOuts}
 use Rattle.motion.specs.declared.Mount.{Mount}
 use Rattle.tree.specs.Table.{nodesOf, nodeAtOf, rootOf, noNodes}
 use Rattle.tree.specs.declared.NodeAt.{NodeAt}

@@ -1,12 +1,12 @@
 // RRT-Connect (document 01, "RRT-Connect" and "Sizes and answers"): two trees, from the start and from the first sample, that grow
 // toward each other.
 use answer::Answer;
+use fields::Goal;
+use fields::Length;
+use fields::Limits;
 use keep_out::KeepOut;
-use keep_out::KeepOuts;
+use keep_out_table::KeepOuts;
 use motion::Mount;
-use state::Goal;
-use state::Length;
-use state::Limits;
 use state::State;
 use tree::NodeAt;
 use tree::Tree;

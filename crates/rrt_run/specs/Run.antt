@@ -9,10 +9,10 @@ use lib.Dec.{ltb}
 use lib.ListN.{length}
 use lib.Ieee.{Float}
 use Rattle.answer.specs.declared.Answer.the-variants.{Done, SamplesEnded, Full}
-use Rattle.state.specs.Satisfied.{satisfiedOf}
+use Rattle.fields.specs.Satisfied.{satisfiedOf}
 use Rattle.state.specs.declared.State.{State}
-use Rattle.state.specs.declared.Goal.{Goal}
-use Rattle.state.specs.declared.Length.{Length}
+use Rattle.fields.specs.declared.Goal.{Goal}
+use Rattle.fields.specs.declared.Length.{Length}
 use Rattle.motion.specs.declared.Mount.{Mount}
 use Rattle.samples.specs.Samples.{samplesOf}
 use Rattle.tree.specs.Table.{Nodes, nodesOf, grownOf}

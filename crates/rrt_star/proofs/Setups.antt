@@ -6,12 +6,12 @@ use lib.ListN.{replicate}
 use lib.Ieee.{Float, binary64, ofBits}
 use Rattle.laws.specs.Cases.{and-true, and-left, and-right}
 use Rattle.answer.specs.declared.Answer.the-variants.{Done, BadInput}
-use Rattle.state.specs.Ranges.{goodLength}
+use Rattle.fields.specs.Ranges.{goodLength}
 use Rattle.state.specs.declared.State.{State}
-use Rattle.state.specs.declared.Limits.{Limits}
-use Rattle.state.specs.declared.Length.{Length}
-use Rattle.state.specs.declared.Goal.{Goal}
-use Rattle.keep_out.specs.declared.KeepOuts.{KeepOuts}
+use Rattle.fields.specs.declared.Limits.{Limits}
+use Rattle.fields.specs.declared.Length.{Length}
+use Rattle.fields.specs.declared.Goal.{Goal}
+use Rattle.keep_out_table.specs.declared.KeepOuts.{KeepOuts}
 use Rattle.motion.specs.declared.Mount.{Mount}
 use Rattle.tree.specs.Table.{Nodes, nodesOf, rootedOf}
 use Rattle.tree.specs.declared.Tree.{Tree}

@@ -1,12 +1,12 @@
 // RRT* (document 01, "RRT*" and "Sizes and answers"): RRT whose new node takes the parent that costs least, and then draws its neighbours
 // under itself where that costs less.
 use answer::Answer;
+use fields::Goal;
+use fields::Length;
+use fields::Limits;
 use keep_out::KeepOut;
-use keep_out::KeepOuts;
+use keep_out_table::KeepOuts;
 use motion::Mount;
-use state::Goal;
-use state::Length;
-use state::Limits;
 use state::State;
 use tree::NodeAt;
 use tree::Tree;

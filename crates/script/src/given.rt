@@ -1,9 +1,9 @@
 // What the numbers of a line stand for. The place is that of the first number.
+use fields::Goal;
+use fields::Length;
+use fields::Limits;
 use keep_out::KeepOut;
-use keep_out::KeepOuts;
-use state::Goal;
-use state::Length;
-use state::Limits;
+use keep_out_table::KeepOuts;
 use state::State;
 ghost use Prim.Native.Nat.{_≤_};
 

@@ -1,7 +1,7 @@
 // The keep-outs that end a line: `box` and six numbers, `disc` and three, or `floor` and one.
 use crate::numbers;
 use keep_out::KeepOut;
-use keep_out::KeepOuts;
+use keep_out_table::KeepOuts;
 use state::State;
 use words::input::Input;
 use words::word;

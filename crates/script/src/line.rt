@@ -4,7 +4,7 @@ use crate::numbers;
 use grammar::Planner;
 use grammar::Row;
 use grammar::Verb;
-use keep_out::KeepOuts;
+use keep_out_table::KeepOuts;
 use words::input;
 use words::input::Input;
 use words::word;

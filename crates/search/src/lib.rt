@@ -1,16 +1,16 @@
 // The search of a PRM query (document 01, "PRM query"): breadth first over a roadmap from the milestones that the start reaches, and the
 // route to the first one taken from the queue that satisfies the goal.
 use columns::Columns;
+use fields::Goal;
+use fields::Limits;
 use motion::Mount;
 use roadmap::Roadmap;
-use state::Goal;
-use state::Limits;
 use state::State;
 use tree::Tree;
 ghost use mathlib.Core.List.{_∷_, []};
 ghost use Prim.Native.Nat.{ℕ, _+_, _≤_, _<_};
 ghost use lib.ListN.{length};
-ghost use Rattle.keep_out.specs.Table.{keepOutsOf};
+ghost use Rattle.keep_out_table.specs.Table.{keepOutsOf};
 ghost use Rattle.columns.specs.Columns.{columnsOf};
 ghost use Rattle.legs.specs.Bits.{legAt};
 ghost use Rattle.construct.specs.Construct.{joinedOf};

@@ -10,7 +10,7 @@ use lib.ListN.{length, take, set, length-set}
 use lib.Seq.{take-suc-set}
 use lib.Ieee.{Float}
 use Rattle.state.specs.declared.State.{State}
-use Rattle.state.specs.declared.Limits.{Limits}
+use Rattle.fields.specs.declared.Limits.{Limits}
 use Rattle.keep_out.specs.declared.KeepOut.{KeepOut}
 use Rattle.tree.specs.Table.{statesOf, nodesIn}
 use Rattle.tree.specs.Nearest.{nearestOf}

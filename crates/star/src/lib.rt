@@ -1,6 +1,6 @@
 // One sample of RRT*: a tree step, and if its node is added the choice of its parent and the rewiring around it.
 use extend::Verdict;
-use state::Limits;
+use fields::Limits;
 use state::State;
 use tree::Tree;
 ghost use Prim.Native.Nat.{_≤_, _<_};

@@ -7,11 +7,11 @@ use mathlib.Core.Path.{_≡_}
 use lib.ListN.{length}
 use lib.Ieee.{Float}
 use Rattle.answer.specs.declared.Answer.the-variants as answer
-use Rattle.state.specs.Satisfied.{satisfiedOf}
+use Rattle.fields.specs.Satisfied.{satisfiedOf}
 use Rattle.state.specs.declared.State.{State}
-use Rattle.state.specs.declared.Goal.{Goal}
-use Rattle.state.specs.declared.Length.{Length}
-use Rattle.keep_out.specs.Table.{keepOutsOf}
+use Rattle.fields.specs.declared.Goal.{Goal}
+use Rattle.fields.specs.declared.Length.{Length}
+use Rattle.keep_out_table.specs.Table.{keepOutsOf}
 use Rattle.keep_out.specs.declared.KeepOut.{KeepOut}
 use Rattle.motion.specs.declared.Mount.{Mount}
 use Rattle.samples.specs.Samples.{samplesOf}

@@ -2,9 +2,9 @@
 use answer::Answer;
 use columns::Columns;
 use extend::Verdict;
+use fields::Goal;
+use fields::Length;
 use motion::Mount;
-use state::Goal;
-use state::Length;
 use state::State;
 use tree::Tree;
 ghost use Prim.Native.Nat.{_≤_, _<_};

@@ -2,5 +2,4 @@ pub mod Ranges
 pub mod Made
 pub mod Distance
 pub mod Steering
-pub mod Satisfied
 pub mod Rows

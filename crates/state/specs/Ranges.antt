@@ -2,30 +2,13 @@
 use mathlib.Core.Bool.{Bool, _&&_}
 use lib.Ieee.{Float, binary64, le, ofBits}
 use Rattle.state.specs.declared.State.{State}
-use Rattle.state.specs.declared.Limits.{Limits}
-use Rattle.state.specs.declared.Length.{Length}
-use Rattle.state.specs.declared.Goal.{Goal}
 
--- -1,024 and 1,024, the range of a coordinate (`constants` in the crate examples computes what these bits are)
+-- -1,024 and 1,024, the range of a coordinate (`constants-are` in the crate examples computes what these bits are)
 abbrev pub lowest : Float
 lowest = ofBits binary64 0xc090_0000_0000_0000
 
 abbrev pub highest : Float
 highest = ofBits binary64 0x4090_0000_0000_0000
-
--- 0.001 and 4,096, the range of a length
-abbrev pub leastLength : Float
-leastLength = ofBits binary64 0x3f50_624d_d2f1_a9fc
-
-abbrev pub mostLength : Float
-mostLength = ofBits binary64 0x40b0_0000_0000_0000
-
--- 0 and 4,096, the range of a goal's radius
-abbrev pub leastRadius : Float
-leastRadius = ofBits binary64 0
-
-abbrev pub mostRadius : Float
-mostRadius = ofBits binary64 0x40b0_0000_0000_0000
 
 -- from low to high, ends included
 unfoldable pub insideOf : Float → Float → Float → Bool
@@ -50,14 +33,3 @@ atMostOf low high = le (low .az) (high .az) && le (low .el) (high .el) && le (lo
 -- lows and highs obey the coordinate range, low at most high
 unfoldable pub goodSpan : State → State → Bool
 goodSpan low high = goodState low && goodState high && atMostOf low high
-
-unfoldable pub goodLimits : Limits → Bool
-goodLimits l = goodSpan (l .low) (l .high)
-
--- segment length, max_distance, search_radius and connection_radius lie from 0.001 to 4,096
-unfoldable pub goodLength : Length → Bool
-goodLength l = insideOf leastLength mostLength (l .value)
-
--- centre and radius 0 to 4,096
-unfoldable pub goodGoal : Goal → Bool
-goodGoal g = goodState (g .centre) && insideOf leastRadius mostRadius (g .radius)

@@ -1,6 +1,6 @@
 // A tree of states in columns, the node nearest to a state, and one tree step (document 01, "Tree step"). The columns are lent to what
 // only reads them; a planner appends in place, in the local that holds the tree.
-use state::Limits;
+use fields::Limits;
 use state::State;
 ghost use mathlib.Core.Path.{_≡_};
 ghost use Prim.Native.Nat.{_≤_, _<_, _+_};

@@ -4,7 +4,7 @@ use mathlib.Core.Bool.{Bool, true, false, _&&_}
 use mathlib.Core.List.{List}
 use mathlib.Core.Path.{_≡_, refl, sym, _∙_, ap, subst}
 use lib.Ieee.{Float}
-use Rattle.state.specs.Satisfied.{satisfiedOf}
+use Rattle.fields.specs.Satisfied.{satisfiedOf}
 use Rattle.state.specs.declared.State.{State}
 use Rattle.tree.specs.Table.{Nodes}
 use Rattle.extend.specs.Extend.{Grown, extendOf, Extends}

@@ -1,7 +1,7 @@
 // One sample (document 01, "RRT-Connect"): a step of the growing tree, and one of the other toward its new node.
 use extend::Verdict;
-use state::Goal;
-use state::Limits;
+use fields::Goal;
+use fields::Limits;
 use state::State;
 ghost use mathlib.Core.Path.{_≡_};
 ghost use Prim.Native.Nat.{_≤_, _<_};

@@ -9,7 +9,7 @@ use denote.Ref.{now}
 use lib.ListN.{length}
 use Rattle.answer.specs.declared.Answer.the-variants.{Done, Full}
 use Rattle.keep_out.specs.declared.KeepOut.{KeepOut}
-use Rattle.keep_out.specs.Table.{keepOutsOf}
+use Rattle.keep_out_table.specs.Table.{keepOutsOf}
 use Rattle.columns.specs.Columns.{columnsOf}
 use Rattle.samples.specs.Samples.{samplesOf}
 use Rattle.roadmap.specs.Map.{Milestone}

@@ -9,7 +9,7 @@ use borrow.Author.Needs.{needs}
 use denote.Ref.{now}
 use lib.ListN.{length, getD}
 use Rattle.state.specs.declared.State.{State}
-use Rattle.keep_out.specs.Table.{keepOutsOf}
+use Rattle.keep_out_table.specs.Table.{keepOutsOf}
 use Rattle.keep_out.specs.declared.KeepOut.{KeepOut}
 use Rattle.columns.specs.Columns.{columnsOf}
 use Rattle.tree.specs.Table.{Nodes}

@@ -8,7 +8,7 @@ use lib.ListN.{length, length-set}
 use lib.Ieee.{nan}
 use Rattle.laws.specs.Rest.{mapped}
 use Rattle.keep_out.specs.declared.KeepOut.the-variants.{Floor}
-use Rattle.keep_out.specs.declared.Slot.{Slot}
+use Rattle.keep_out_table.specs.declared.Slot.{Slot}
 use Rattle.columns.proofs.Rows.{six-length}
 use Rattle.columns.proofs.Spread.{Rowed, rowed-more, spread-is}
 use Rattle.columns.proofs.Columns.of.Statement.{statement}

@@ -6,8 +6,8 @@ use borrow.Author.Needs.{needs}
 use lib.ListN.{length, length-set}
 use lib.Ieee.{nan}
 use Rattle.keep_out.specs.declared.KeepOut.the-variants.{Floor}
-use Rattle.keep_out.specs.declared.KeepOuts.{KeepOuts}
-use Rattle.keep_out.specs.declared.Slot.{Slot}
+use Rattle.keep_out_table.specs.declared.KeepOuts.{KeepOuts}
+use Rattle.keep_out_table.specs.declared.Slot.{Slot}
 use Rattle.columns.proofs.Spread.{Rowed}
 use Rattle.host.proofs.Listing.{empty-size, rowed-set, listed-is}
 use Rattle.host.proofs.given.table_of.Statement.{statement}

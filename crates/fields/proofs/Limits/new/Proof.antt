@@ -1,0 +1,20 @@
+-- `fields::Limits::new` meets its contract.
+use Rattle.laws.specs.Cases.{cases}
+use Rattle.fields.specs.Made.{limitsOf}
+use borrow.Author.Needs.{needs}
+use Rattle.fields.proofs.Limits.new.Statement.{statement}
+use Rattle.fields.proofs.Limits.new.Tie as tie
+
+is-good-requires : tie.Need-is-good-requires
+is-good-requires c κs = search needs
+
+returns : tie.Need-returns
+unfolding limitsOf
+returns c = search (cases, needs)
+
+returns-2 : tie.Need-returns-2
+unfolding limitsOf
+returns-2 c = search (cases, needs)
+
+pub new-spec : {M : Type 1} → statement M
+new-spec = tie.close (tie.spec is-good-requires returns returns-2)
