@@ -7,9 +7,14 @@ use native.Mathlib.Omega.{arith}
 use lib.Ieee.{Float}
 use Rattle.laws.specs.Cases.{or-left, or-right}
 use Rattle.state.specs.declared.State.{State}
+use Rattle.keep_out.specs.declared.KeepOut.{KeepOut}
 use Rattle.keep_out.specs.Covers.{coversOf, coveredOf}
 use Rattle.columns.specs.Rows.{keepOutAt}
 use Rattle.columns.specs.Columns.{columnsFrom, columnsOf}
+
+-- what the test of a row's keep-out showed, said of the row
+pub covered : (k row : KeepOut) (s : State) (r b : Bool) → r ≡ coversOf k s → k ≡ row → r ≡ b → coversOf row s ≡ b
+covered k row s r b p q w = cc
 
 module _ (kinds : List ℕ) (numbers : List Float) (rows : ℕ) where
   columns-more : (j : ℕ) → j < rows → columnsFrom kinds numbers (rows - j) j ≡ keepOutAt kinds numbers j ∷ columnsFrom kinds numbers (rows - (j + 1)) (j + 1)

@@ -1,4 +1,5 @@
 pub mod Joined
+pub mod Valid
 pub mod Runs
 pub mod Closed
 pub mod Constructed

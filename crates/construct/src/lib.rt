@@ -2,6 +2,7 @@
 use answer::Answer;
 use columns::Columns;
 use fields::Limits;
+use keep_out_table::KeepOuts;
 use motion::Mount;
 use roadmap::Roadmap;
 use state::State;
@@ -10,6 +11,7 @@ ghost use Prim.Native.Nat.{ℕ, _<_};
 ghost use lib.ListN.{length};
 ghost use Rattle.keep_out_table.specs.Table.{keepOutsOf};
 ghost use Rattle.columns.specs.Columns.{columnsOf};
+ghost use Rattle.motion.specs.Valid.{validOf};
 ghost use Rattle.samples.specs.Samples.{samplesOf};
 ghost use Rattle.state.specs.Rows.{rowAt};
 ghost use Rattle.roadmap.specs.View.{milestonesOf, Joins};
@@ -21,6 +23,35 @@ pub struct Built {
     pub answer: Answer,
     // The samples taken.
     pub taken: usize,
+}
+
+// Within the limits, and covered by no keep-out, over keep-outs that are lent as columns.
+fn is_valid<'a>(
+    limits: Limits,
+    kinds: &'a [u8; 32],
+    numbers: &'a [f64; 192],
+    keep_outs: usize,
+    s: State,
+) -> bool
+    ensures { λ r. ⌜ r ≡ validOf limits (columnsOf (now (kinds .entry)) (now (numbers .entry)) «keep_outs») s ⌝ }
+{
+    let rows = if keep_outs < KeepOuts::MOST {
+        keep_outs
+    } else {
+        KeepOuts::MOST
+    };
+    if s.within(limits.low, limits.high) {
+        let mut j: usize = 0;
+        'keep_outs: while j < rows {
+            let k = columns::keep_out_at(kinds, numbers, j);
+            if k.covers(s) {
+                return false;
+            }
+            j += 1;
+        }
+        return true;
+    }
+    false
 }
 
 // Joins a new milestone, the n-th, to each earlier one that it reaches.
@@ -87,7 +118,7 @@ pub fn construct(mount: Mount, radius: f64, map: Roadmap, samples: &[f64]) -> Bu
             feed: samples[at + 2],
         };
         taken += 1;
-        if motion::is_valid(limits, &columns.kinds, &columns.numbers, rows, s) {
+        if is_valid(limits, &columns.kinds, &columns.numbers, rows, s) {
             if count < Roadmap::MOST {
                 join_earlier(
                     limits,

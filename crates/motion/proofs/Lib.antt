@@ -2,4 +2,3 @@
 pub mod Search
 pub mod Number
 pub mod Walk
-pub mod Valid

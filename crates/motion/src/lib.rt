@@ -65,35 +65,6 @@ fn point(from: State, to: State, n: usize, i: usize) -> State
     }
 }
 
-// Within the limits, and covered by no keep-out, over keep-outs that are lent as columns.
-pub fn is_valid<'a>(
-    limits: Limits,
-    kinds: &'a [u8; 32],
-    numbers: &'a [f64; 192],
-    count: usize,
-    s: State,
-) -> bool
-    ensures { λ r. ⌜ r ≡ validOf limits (columnsOf (now (kinds .entry)) (now (numbers .entry)) count) s ⌝ }
-{
-    let rows = if count < KeepOuts::MOST {
-        count
-    } else {
-        KeepOuts::MOST
-    };
-    if s.within(limits.low, limits.high) {
-        let mut j: usize = 0;
-        'keep_outs: while j < rows {
-            let k = columns::keep_out_at(kinds, numbers, j);
-            if k.covers(s) {
-                return false;
-            }
-            j += 1;
-        }
-        return true;
-    }
-    false
-}
-
 // Whether the motion from from to to is accepted, over keep-outs that are lent as columns. The walk is left at the first point that
 // is not valid.
 pub fn accepts<'a>(
@@ -110,15 +81,28 @@ pub fn accepts<'a>(
     let Steps::Count(n) = num_steps(segment, from, to) else {
         return false;
     };
+    let rows = if count < KeepOuts::MOST {
+        count
+    } else {
+        KeepOuts::MOST
+    };
     let last = if n < 1 { 1 } else { n };
     let mut i: usize = 1;
     'points: while i <= last {
         let s = point(from, to, n, i);
-        if is_valid(limits, kinds, numbers, count, s) {
-            i += 1;
+        if s.within(limits.low, limits.high) {
+            let mut j: usize = 0;
+            'keep_outs: while j < rows {
+                let k = columns::keep_out_at(kinds, numbers, j);
+                if k.covers(s) {
+                    return false;
+                }
+                j += 1;
+            }
         } else {
             return false;
         }
+        i += 1;
     }
     true
 }

@@ -1,4 +1,4 @@
--- `motion::is_valid` meets its contract.
+-- `construct::is_valid` meets its contract.
 use Prim.Native.Nat.{_≤_, _-_, min}
 use mathlib.Core.Logic.{⊎-elim}
 use mathlib.Core.Path.{_≡_, _∙_}
@@ -6,23 +6,23 @@ use native.Mathlib.Omega.{arith}
 use borrow.Author.Needs.{needs}
 use Rattle.keep_out.specs.Covers.{coveredOf}
 use Rattle.columns.specs.Columns.{columnsOf}
-use Rattle.columns.proofs.Walk.{coveredFrom, covered-are, covered-here, covered-later, covered-none}
-use Rattle.motion.proofs.Valid.{covered, valid-out, valid-hit, valid-free}
-use Rattle.motion.proofs.is_valid.Statement.{statement}
-use Rattle.motion.proofs.is_valid.Tie as tie
+use Rattle.columns.proofs.Walk.{covered, coveredFrom, covered-are, covered-here, covered-later, covered-none}
+use Rattle.construct.proofs.Valid.{valid-out, valid-hit, valid-free}
+use Rattle.construct.proofs.is_valid.Statement.{statement}
+use Rattle.construct.proofs.is_valid.Tie as tie
 
 abbrev Inv-keep-outs : tie.InvT-keep-outs
-Inv-keep-outs kinds numbers count s rows j₀ j = (j ≤ rows) × (rows ≡ min count 32) × (coveredOf (columnsOf kinds numbers count) s ≡ coveredFrom kinds numbers rows s j)
+Inv-keep-outs kinds numbers keep-outs s rows j₀ j = (j ≤ rows) × (rows ≡ min keep-outs 32) × (coveredOf (columnsOf kinds numbers keep-outs) s ≡ coveredFrom kinds numbers rows s j)
 
 abbrev μ-keep-outs : tie.MeasureT-keep-outs
-μ-keep-outs kinds numbers count s rows j₀ j = rows - j
+μ-keep-outs kinds numbers keep-outs s rows j₀ j = rows - j
 
 within-requires : tie.Need-within-requires Inv-keep-outs μ-keep-outs
 within-requires c κs = search needs
 
 keep-outs-holds : tie.Need-keep-outs-holds Inv-keep-outs μ-keep-outs
 keep-outs-holds c =
-    let most : c .before .before .if1 .rows ≡ min (c .before .before .before .args .count) 32 = ⊎-elim (λ w. omega arith) (λ w. omega arith) (c .before .before .if1 .came) in
+    let most : c .before .before .if1 .rows ≡ min (c .before .before .before .args .keep-outs) 32 = ⊎-elim (λ w. omega arith) (λ w. omega arith) (c .before .before .if1 .came) in
     (omega arith, most, covered-are _ _ _ _ _ most)
 
 keep-out-at-requires : tie.Need-keep-out-at-requires Inv-keep-outs μ-keep-outs

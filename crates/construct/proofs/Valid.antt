@@ -5,13 +5,9 @@ use mathlib.Core.Path.{_≡_}
 use Rattle.state.specs.Ranges.{withinOf}
 use Rattle.state.specs.declared.State.{State}
 use Rattle.fields.specs.declared.Limits.{Limits}
-use Rattle.keep_out.specs.Covers.{coversOf, coveredOf}
+use Rattle.keep_out.specs.Covers.{coveredOf}
 use Rattle.keep_out.specs.declared.KeepOut.{KeepOut}
 use Rattle.motion.specs.Valid.{validOf}
-
--- what the test of a row's keep-out showed, said of the row
-pub covered : (k row : KeepOut) (s : State) (r b : Bool) → r ≡ coversOf k s → k ≡ row → r ≡ b → coversOf row s ≡ b
-covered k row s r b p q w = cc
 
 module _ (limits : Limits) (ks : List KeepOut) (s : State) (w : Bool) (is : w ≡ withinOf (limits .low) (limits .high) s) where
   pub valid-out : w ≡ false → false ≡ validOf limits ks s
