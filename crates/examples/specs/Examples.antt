@@ -28,8 +28,8 @@ use Rattle.motion.specs.declared.Steps.{Steps}
 use Rattle.motion.specs.declared.Steps.the-variants.{Count, Many}
 use Rattle.samples.specs.Samples.{allCoordinates, goodSamples, samplesOf}
 use Rattle.tree.specs.Table.{Nodes, grownOf, rootOf}
-use Rattle.tree.specs.Nearest.{nearestFrom, nearestOf}
-use Rattle.tree.specs.Step.{stepFrom, stepOf}
+use Rattle.nearest.specs.Nearest.{nearestFrom, nearestOf}
+use Rattle.step.specs.Step.{stepFrom, stepOf}
 use Rattle.route.specs.Path.{climbOf, pathOf, ancestorsOf, upwardsOf}
 use Rattle.route.specs.Written.{flatOf, writtenOf}
 use Rattle.plan.specs.Plan.{Plan, unset, set}

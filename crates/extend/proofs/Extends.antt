@@ -11,8 +11,8 @@ use Rattle.state.specs.declared.State.{State}
 use Rattle.fields.specs.declared.Limits.{Limits}
 use Rattle.keep_out.specs.declared.KeepOut.{KeepOut}
 use Rattle.tree.specs.Table.{Nodes, statesOf, nodesIn, nodesOf, grownOf}
-use Rattle.tree.specs.Step.{stepOf}
-use Rattle.tree.specs.declared.Stepped.{Stepped}
+use Rattle.step.specs.Step.{stepOf}
+use Rattle.step.specs.declared.Stepped.{Stepped}
 use Rattle.tree.specs.declared.Tree.{Tree}
 use Rattle.tree.proofs.Append.{states-length, put-grows}
 use Rattle.extend.specs.declared.Verdict.{Verdict}

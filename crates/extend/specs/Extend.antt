@@ -10,8 +10,8 @@ use Rattle.state.specs.declared.State.{State}
 use Rattle.fields.specs.declared.Limits.{Limits}
 use Rattle.keep_out.specs.declared.KeepOut.{KeepOut}
 use Rattle.tree.specs.Table.{Nodes, nodesIn, grownOf}
-use Rattle.tree.specs.Step.{stepOf}
-use Rattle.tree.specs.declared.Stepped.{Stepped}
+use Rattle.step.specs.Step.{stepOf}
+use Rattle.step.specs.declared.Stepped.{Stepped}
 use Rattle.extend.specs.declared.Verdict.{Verdict}
 use Rattle.extend.specs.declared.Verdict.the-variants.{Refused, Full, Added}
 use Rattle.extend.specs.declared.Extended.{Extended}

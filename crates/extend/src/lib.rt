@@ -43,7 +43,7 @@ pub fn extend<'a>(
     requires { ⌜ (0 < n) × (n ≤ 512) × Sized (now az) (now el) (now feed) (now parent) ⌝ }
     ensures { λ r. ⌜ Extends limits segment (columnsOf (now (kinds .entry)) (now (numbers .entry)) «keep_outs») «max_distance» (nodesIn n (now (az .entry)) (now (el .entry)) (now (feed .entry)) (now (parent .entry))) target r (now (az .exit)) (now (el .exit)) (now (feed .exit)) (now (parent .exit)) ⌝ }
 {
-    let e = tree::step(
+    let e = step::step(
         az,
         el,
         feed,

@@ -13,8 +13,8 @@ use Rattle.state.specs.declared.State.{State}
 use Rattle.samples.specs.Samples.{samplesOf}
 use Rattle.samples.proofs.Threes.{three}
 use Rattle.tree.specs.Table.{Nodes, statesOf, nodesIn, nodesOf, grownOf}
-use Rattle.tree.specs.Step.{stepOf}
-use Rattle.tree.specs.declared.Stepped.{Stepped}
+use Rattle.step.specs.Step.{stepOf}
+use Rattle.step.specs.declared.Stepped.{Stepped}
 use Rattle.tree.specs.declared.Tree.{Tree}
 use Rattle.tree.proofs.Append.{Sized, putOf, put-grows, nodes-length}
 use Rattle.route.specs.Path.{pathOf}

@@ -16,8 +16,8 @@ use Rattle.fields.specs.declared.Length.{Length}
 use Rattle.motion.specs.declared.Mount.{Mount}
 use Rattle.samples.specs.Samples.{samplesOf}
 use Rattle.tree.specs.Table.{Nodes, nodesOf, grownOf}
-use Rattle.tree.specs.Step.{stepOf}
-use Rattle.tree.specs.declared.Stepped.{Stepped}
+use Rattle.step.specs.Step.{stepOf}
+use Rattle.step.specs.declared.Stepped.{Stepped}
 use Rattle.tree.specs.declared.Tree.{Tree}
 use Rattle.route.specs.Path.{pathOf}
 use Rattle.route.specs.Written.{writtenOf}

@@ -44,7 +44,7 @@ pub fn run(
             feed: samples[at + 2],
         };
         let n = tree.count;
-        let e = tree::step(
+        let e = step::step(
             &tree.az,
             &tree.el,
             &tree.feed,

@@ -13,10 +13,11 @@ use Rattle.state.specs.declared.State.{State}
 use Rattle.fields.specs.declared.Limits.{Limits}
 use Rattle.keep_out.specs.declared.KeepOut.{KeepOut}
 use Rattle.tree.specs.Table.{statesOf, nodesIn}
-use Rattle.tree.specs.Nearest.{nearestOf}
-use Rattle.tree.specs.Step.{stepFrom, stepOf}
-use Rattle.tree.specs.declared.Stepped.{Stepped}
-use Rattle.tree.proofs.Append.{states-more, nearest-below}
+use Rattle.nearest.specs.Nearest.{nearestOf}
+use Rattle.step.specs.Step.{stepFrom, stepOf}
+use Rattle.step.specs.declared.Stepped.{Stepped}
+use Rattle.tree.proofs.Append.{states-more}
+use Rattle.nearest.proofs.Below.{nearest-below}
 use Rattle.extend.specs.declared.Verdict.{Verdict}
 use Rattle.extend.specs.declared.Verdict.the-variants.{Refused, Full, Added}
 use Rattle.neighbours.specs.Neighbours.{neighboursOf, Found}

@@ -36,7 +36,7 @@ pub fn grow<'a>(
     requires { ⌜ (0 < n) × (n ≤ 512) × Sized (now az) (now el) (now feed) (now parent) (now cost) (now found) ⌝ }
     ensures { λ r. ⌜ Grows (planWith limits segment (columnsOf (now (kinds .entry)) (now (numbers .entry)) «keep_outs») «max_distance» radius) (treeIn n (now (az .entry)) (now (el .entry)) (now (feed .entry)) (now (parent .entry)) (now (cost .entry))) sample r (now (az .exit)) (now (el .exit)) (now (feed .exit)) (now (parent .exit)) (now (cost .exit)) (now (found .exit)) ⌝ }
 {
-    let e = tree::step(
+    let e = step::step(
         az,
         el,
         feed,

@@ -1,20 +1,16 @@
 -- The rows of columns: how many, what stands at an index, and one more at the end.
-use Prim.Native.Nat.{ℕ, zero, suc, _+_, _-_, _≤_, _<_, min}
-use mathlib.Core.Bool.{Bool, true, false, cond}
+use Prim.Native.Nat.{ℕ, zero, suc, _+_, _≤_, _<_, min}
 use mathlib.Core.List.{List, [], _∷_, _++_}
 use mathlib.Core.Path.{_≡_, refl, _∙_, ap}
 use native.Mathlib.Omega.{arith}
 use native.Mathlib.Numerals.{add-one}
 use lib.ListN.{length, getD, set, length-set}
 use lib.Seq.{getD-set-same, getD-set-other, take-suc-set}
-use lib.Ieee.{Float, nan, lt}
+use lib.Ieee.{Float, nan}
 use Rattle.state.specs.declared.State.{State}
-use Rattle.state.specs.Distance.{distanceOf}
-use Rattle.tree.specs.declared.Near.{Near}
 use Rattle.tree.specs.declared.Tree.{Tree}
 use Rattle.state.specs.Rows.{rowAt}
 use Rattle.tree.specs.Table.{rowsOf, statesOf, stateAt, nodesIn, nodesOf, grownOf, rootOf, rootedOf, noNodes, noneOf}
-use Rattle.tree.specs.Nearest.{betterOf, nearestFrom, nearestOf}
 
 module _ (az el feed : List Float) where
   rows-length : (k i : ℕ) → length (rowsOf az el feed k i) ≡ k
@@ -54,28 +50,6 @@ module _ (az el feed : List Float) where
 
   pub state-is : (n j : ℕ) → n ≤ 512 → j < n → stateAt (statesOf n az el feed) j ≡ rowAt az el feed j
   state-is n j h l = state-most n j (omega arith)
-
-  -- the nearest stands among the rows
-  found-below : (s : State) (k i : ℕ) (b : Near) → b .index < i → nearestFrom s b i (rowsOf az el feed k i) .index < i + k
-  unfolding nearestFrom rowsOf
-  found-below s zero i b h = omega arith
-  found-below s (suc k) i b h =
-      let b' = betterOf b i (distanceOf (rowAt az el feed i) s) in
-      let l : b' .index < i + 1 = pick (lt (distanceOf (rowAt az el feed i) s) (b .far)) in
-      let r : nearestFrom s b' (i + 1) (rowsOf az el feed k (i + 1)) .index < i + 1 + k = found-below s k (i + 1) b' l in
-      omega (arith, r)
-    where
-      pick : (t : Bool) → (cond t (record { index = i; far = distanceOf (rowAt az el feed i) s }) b) .index < i + 1
-      pick true = omega arith
-      pick false = omega arith
-
-  pub nearest-below : (n : ℕ) (s : State) → 0 < n → n ≤ 512 → nearestOf (statesOf n az el feed) s .index < n
-  unfolding statesOf nearestOf rowsOf
-  nearest-below n s h l =
-      let e : min n 512 ≡ suc (n - 1) = omega arith in
-      let r : nearestFrom s (record { index = 0; far = distanceOf (rowAt az el feed 0) s }) 1 (rowsOf az el feed (n - 1) 1) .index < 1 + (n - 1) =
-      found-below s (n - 1) 1 _ (omega arith) in
-      rw e (omega (arith, r))
 
 -- writing past the rows changes none of them
 module _ (az el feed : List Float) (m : ℕ) (x y z : Float) where

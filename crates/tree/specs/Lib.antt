@@ -1,3 +1,1 @@
 pub mod Table
-pub mod Nearest
-pub mod Step

@@ -6,11 +6,11 @@ use mathlib.Core.Path.{_≡_, _∙_, ap}
 use lib.Ieee.{Float, lt}
 use Rattle.state.specs.Distance.{distanceOf}
 use Rattle.state.specs.declared.State.{State}
-use Rattle.tree.specs.declared.Near.{Near}
+use Rattle.nearest.specs.declared.Near.{Near}
 use Rattle.state.specs.Rows.{rowAt}
 use Rattle.tree.specs.Table.{rowsOf, statesOf}
-use Rattle.tree.specs.Nearest.{betterOf, nearestFrom, nearestOf}
+use Rattle.nearest.specs.Nearest.{betterOf, nearestFrom, nearestOf}
 use Rattle.tree.proofs.Rows.{rows-more, rows-none, states-are}
 
 -- the first n rows, from i on
 module _ (az el feed : List Float) (s : State) (n : ℕ) where

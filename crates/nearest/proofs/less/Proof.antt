@@ -1,7 +1,7 @@
--- `tree::less` meets its contract.
-use Rattle.tree.specs.Nearest.{lessOf}
-use Rattle.tree.proofs.less.Statement.{statement}
-use Rattle.tree.proofs.less.Tie as tie
+-- `nearest::less` meets its contract.
+use Rattle.nearest.specs.Nearest.{lessOf}
+use Rattle.nearest.proofs.less.Statement.{statement}
+use Rattle.nearest.proofs.less.Tie as tie
 
 returns : tie.Need-returns
 unfolding lessOf

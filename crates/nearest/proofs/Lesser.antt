@@ -3,7 +3,7 @@ use mathlib.Core.Bool.{Bool, true, false, cond}
 use mathlib.Core.Path.{_≡_}
 use lib.Ieee.{Float, lt}
 use Rattle.laws.specs.Order.{whether, good, at-most, not-both}
-use Rattle.tree.specs.Nearest.{lessOf}
+use Rattle.nearest.specs.Nearest.{lessOf}
 
 -- it is the one or the other
 pub either : (P : Float → Type 0) (a b : Float) → P a → P b → P (lessOf a b)

@@ -8,14 +8,14 @@ use native.Mathlib.Nat.{eq-or-lt-of-le}
 use mathlib.Core.Logic.{⊎-elim}
 use lib.Ieee.{Float, lt}
 use Rattle.state.specs.declared.State.{State}
-use Rattle.tree.specs.declared.Near.{Near}
+use Rattle.nearest.specs.declared.Near.{Near}
 use Rattle.state.specs.Rows.{rowAt}
 use Rattle.tree.specs.Table.{rowsOf, statesOf}
-use Rattle.tree.specs.Nearest.{farOf, betterOf, nearestFrom, nearestOf, lessOf, Lowest}
+use Rattle.nearest.specs.Nearest.{farOf, betterOf, nearestFrom, nearestOf, lessOf, Lowest}
 use Rattle.laws.specs.Order.{whether, clash, good, at-most, under, over, self}
 use Rattle.state.proofs.Good.{distance-good}
-use Rattle.tree.proofs.Lesser.{either, less-left, less-right}
-use Rattle.tree.proofs.Nearer.{first, next}
+use Rattle.nearest.proofs.Lesser.{either, less-left, less-right}
+use Rattle.nearest.proofs.Nearer.{first, next}
 
 no-room : (i j : ℕ) → i ≤ j → j < i → ⊥
 no-room i j x y = omega arith

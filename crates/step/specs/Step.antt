@@ -8,10 +8,10 @@ use Rattle.state.specs.declared.State.{State}
 use Rattle.fields.specs.declared.Limits.{Limits}
 use Rattle.keep_out.specs.declared.KeepOut.{KeepOut}
 use Rattle.motion.specs.Accepts.{acceptsOf}
-use Rattle.tree.specs.declared.Near.{Near}
-use Rattle.tree.specs.declared.Stepped.{Stepped}
+use Rattle.nearest.specs.declared.Near.{Near}
+use Rattle.step.specs.declared.Stepped.{Stepped}
 use Rattle.tree.specs.Table.{stateAt}
-use Rattle.tree.specs.Nearest.{nearestOf}
+use Rattle.nearest.specs.Nearest.{nearestOf}
 
 -- from the nearest node, at its distance
 unfoldable pub stepFrom : Limits → Float → List KeepOut → Float → State → Near → State → Stepped

@@ -1,8 +1,8 @@
--- `tree::lowest` meets its contract.
-use Rattle.tree.proofs.Blocks.{eight-calls}
+-- `nearest::lowest` meets its contract.
+use Rattle.nearest.proofs.Blocks.{eight-calls}
 use borrow.Author.Needs.{needs}
-use Rattle.tree.proofs.lowest.Statement.{statement}
-use Rattle.tree.proofs.lowest.Tie as tie
+use Rattle.nearest.proofs.lowest.Statement.{statement}
+use Rattle.nearest.proofs.lowest.Tie as tie
 
 at-requires : tie.Need-at-requires
 at-requires c κs = search needs

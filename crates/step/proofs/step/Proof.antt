@@ -1,10 +1,10 @@
--- `tree::step` meets its contract.
+-- `step::step` meets its contract.
 use Prim.Native.Nat.{_<_}
 use native.Mathlib.Omega.{arith}
-use Rattle.tree.proofs.Steps.{below, step-is}
+use Rattle.step.proofs.Steps.{below, step-is}
 use borrow.Author.Needs.{needs}
-use Rattle.tree.proofs.step.Statement.{statement}
-use Rattle.tree.proofs.step.Tie as tie
+use Rattle.step.proofs.step.Statement.{statement}
+use Rattle.step.proofs.step.Tie as tie
 
 nearest-requires : tie.Need-nearest-requires
 nearest-requires c κs = search needs

@@ -1,14 +1,14 @@
--- `tree::nearest` meets its contract.
+-- `nearest::nearest` meets its contract.
 use mathlib.Core.Logic.{⊎-elim}
 use mathlib.Core.Path.{_≡_, sym, _∙_}
 use native.Mathlib.Omega.{arith}
 use Prim.Native.Nat.{_≤_, _-_, _+_, min}
 use Rattle.tree.specs.Table.{statesOf}
-use Rattle.tree.specs.Nearest.{farOf, nearestOf}
-use Rattle.tree.proofs.Nearer.{next, last, nowhere, took, kept}
-use Rattle.tree.proofs.Blocks.{Held, held-first, held-kept, held-won, held-as, held-on, held-here, searchAt}
-use Rattle.tree.proofs.nearest.Statement.{statement}
-use Rattle.tree.proofs.nearest.Tie as tie
+use Rattle.nearest.specs.Nearest.{farOf, nearestOf}
+use Rattle.nearest.proofs.Nearer.{next, last, nowhere, took, kept}
+use Rattle.nearest.proofs.Blocks.{Held, held-first, held-kept, held-won, held-as, held-on, held-here, searchAt}
+use Rattle.nearest.proofs.nearest.Statement.{statement}
+use Rattle.nearest.proofs.nearest.Tie as tie
 
 abbrev Inv-eights : tie.InvT-eights
 Inv-eights az el feed n s count block₀ least₀ i₀ block least i =

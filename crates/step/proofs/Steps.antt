@@ -9,12 +9,13 @@ use Rattle.state.specs.declared.State.{State}
 use Rattle.fields.specs.declared.Limits.{Limits}
 use Rattle.keep_out.specs.declared.KeepOut.{KeepOut}
 use Rattle.motion.specs.Accepts.{acceptsOf}
-use Rattle.tree.specs.declared.Near.{Near}
+use Rattle.nearest.specs.declared.Near.{Near}
 use Rattle.state.specs.Rows.{rowAt}
 use Rattle.tree.specs.Table.{statesOf}
-use Rattle.tree.specs.Nearest.{nearestOf}
-use Rattle.tree.specs.Step.{stepFrom, stepOf}
-use Rattle.tree.proofs.Append.{state-is, nearest-below}
+use Rattle.nearest.specs.Nearest.{nearestOf}
+use Rattle.step.specs.Step.{stepFrom, stepOf}
+use Rattle.tree.proofs.Append.{state-is}
+use Rattle.nearest.proofs.Below.{nearest-below}
 
 module _ (az el feed : List Float) (n : ℕ) (some : 0 < n) (room : n ≤ 512) (sample : State) (near : Near) (is : near ≡ nearestOf (statesOf n az el feed) sample) where
   -- the nearest node is one of the nodes

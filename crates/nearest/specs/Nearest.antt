@@ -6,7 +6,7 @@ use mathlib.Core.List.{List, [], _∷_}
 use lib.Ieee.{Float, binary64, lt, ofBits}
 use Rattle.state.specs.Distance.{distanceOf}
 use Rattle.state.specs.declared.State.{State}
-use Rattle.tree.specs.declared.Near.{Near}
+use Rattle.nearest.specs.declared.Near.{Near}
 use Rattle.state.specs.Rows.{rowAt}
 
 -- the better of the best so far and the state at i, whose distance is d: a tie keeps the best so far
