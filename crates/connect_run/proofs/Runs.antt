@@ -13,7 +13,8 @@ use Rattle.plan.specs.Plan.{Plan}
 use Rattle.turn.specs.declared.Ends.{Ends}
 use Rattle.round.specs.declared.Rounded.{Rounded}
 use Rattle.turn.specs.Turn.{Columns}
-use Rattle.round.specs.Round.{Trees, Round, roundOf, treesAt, Rounds}
+use Rattle.turn.specs.Trees.{Trees, treesAt}
+use Rattle.round.specs.Round.{Round, roundOf, Rounds}
 use Rattle.ending.specs.Ending.{goesOnOf, answerOf, endPath}
 use Rattle.plan.specs.Solve.{Ended}
 use Rattle.connect_run.specs.Run.{afterOf, runOf}

@@ -10,14 +10,15 @@ use Rattle.answer.specs.declared.Answer.the-variants.{SamplesEnded}
 use Rattle.state.specs.declared.State.{State}
 use Rattle.fields.specs.declared.Goal.{Goal}
 use Rattle.fields.specs.declared.Length.{Length}
-use Rattle.motion.specs.declared.Mount.{Mount}
+use Rattle.mount.specs.declared.Mount.{Mount}
 use Rattle.samples.specs.Samples.{samplesOf}
 use Rattle.tree.specs.Table.{nodesOf}
 use Rattle.tree.specs.declared.Tree.{Tree}
 use Rattle.route.specs.Written.{writtenOf}
 use Rattle.plan.specs.Plan.{Plan, planFrom}
 use Rattle.plan.specs.Solve.{Ended, noRoute}
-use Rattle.round.specs.Round.{Trees, Round, roundOf}
+use Rattle.turn.specs.Trees.{Trees}
+use Rattle.round.specs.Round.{Round, roundOf}
 use Rattle.ending.specs.Ending.{goesOnOf, answerOf, endPath}
 use Rattle.connect_run.specs.declared.Ran.{Ran}
 

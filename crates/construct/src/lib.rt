@@ -3,7 +3,7 @@ use answer::Answer;
 use columns::Columns;
 use fields::Limits;
 use keep_out_table::KeepOuts;
-use motion::Mount;
+use mount::Mount;
 use roadmap::Roadmap;
 use state::State;
 ghost use mathlib.Core.Path.{_≡_};

@@ -15,7 +15,7 @@ use Rattle.route.proofs.Upwards.{written-on}
 use Rattle.turn.specs.declared.Ends.{Ends}
 use Rattle.turn.specs.declared.Ends.the-variants.{GoesOn, Full, Goal, Joined}
 use Rattle.turn.specs.Turn.{Columns}
-use Rattle.round.specs.Round.{Trees, treesAt}
+use Rattle.turn.specs.Trees.{Trees, treesAt}
 use Rattle.ending.specs.Ending.{endPath, newest, WroteEnd}
 
 abbrev nodesAt : ℕ → Columns → Nodes

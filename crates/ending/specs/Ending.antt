@@ -13,7 +13,7 @@ use Rattle.route.specs.Path.{pathOf, upwardsOf}
 use Rattle.route.specs.Written.{writtenOf}
 use Rattle.turn.specs.declared.Ends.{Ends}
 use Rattle.turn.specs.declared.Ends.the-variants.{GoesOn, Full, Goal, Joined}
-use Rattle.round.specs.Round.{Trees, sizeOf}
+use Rattle.turn.specs.Trees.{Trees, sizeOf}
 
 abbrev pub goesOnOf : Ends → Bool
 goesOnOf GoesOn = true

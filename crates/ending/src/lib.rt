@@ -5,7 +5,7 @@ ghost use mathlib.Core.Path.{_≡_};
 ghost use Prim.Native.Nat.{_≤_, _<_};
 ghost use lib.ListN.{length};
 ghost use Rattle.turn.specs.Turn.{columnsAt};
-ghost use Rattle.round.specs.Round.{treesAt};
+ghost use Rattle.turn.specs.Trees.{treesAt};
 ghost use Rattle.ending.specs.Ending.{goesOnOf, answerOf, WroteEnd};
 
 pub fn goes_on(ends: Ends) -> bool

@@ -21,7 +21,8 @@ use Rattle.keep_out_table.specs.Good.{allGood, goodTable}
 use Rattle.keep_out_table.specs.Table.{keepOutsOf, emptyTable}
 use Rattle.keep_out.specs.declared.KeepOut.{KeepOut}
 use Rattle.keep_out.specs.declared.KeepOut.the-variants.{Disc}
-use Rattle.motion.specs.Valid.{validOf, goodMount}
+use Rattle.mount.specs.Good.{goodMount}
+use Rattle.motion.specs.Valid.{validOf}
 use Rattle.motion.specs.Points.{quotientOf, searchOf, leastOf, stepsOf, partWay, partWays, testedOf, Checked, tooMany, points, checkedAt, checkedOf}
 use Rattle.motion.specs.Accepts.{allValid, acceptedOf, acceptsOf}
 use Rattle.motion.specs.declared.Steps.{Steps}
@@ -41,7 +42,8 @@ use Rattle.rrt_run.specs.Run.{afterOf, runOf}
 use Rattle.rrt.specs.Solve.{solveOf}
 use Rattle.extend.specs.Extend.{afterStep, extendOf}
 use Rattle.turn.specs.Turn.{connectEnds, byVerdict, turnOf}
-use Rattle.round.specs.Round.{Trees, roundOf}
+use Rattle.turn.specs.Trees.{Trees}
+use Rattle.round.specs.Round.{roundOf}
 use Rattle.ending.specs.Ending.{endPath}
 use Rattle.rrt_connect.specs.Planner as planner
 use Rattle.connect_run.specs.Run as run

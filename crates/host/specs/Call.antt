@@ -17,7 +17,7 @@ use Rattle.plan.specs.Solve.{Outcome, refusedOf}
 use Rattle.rrt.specs.Planner as rrt
 use Rattle.rrt.specs.Solve as rrt-solve
 use Rattle.rrt_connect.specs.Planner as connect
-use Rattle.round.specs.Round.{Trees}
+use Rattle.turn.specs.Trees.{Trees}
 use Rattle.rrt_connect.specs.Solve as connect-solve
 use Rattle.star.specs.Grow.{Costed}
 use Rattle.star_run.specs.Run.{StarPlan}

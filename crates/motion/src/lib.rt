@@ -1,6 +1,4 @@
-// The mount with its limits, segment length and keep-outs, and the motion check (document 01, "Motion check").
-use columns::Columns;
-use fields::Length;
+// The motion check (document 01, "Motion check"), over keep-outs that are lent as columns.
 use fields::Limits;
 use keep_out_table::KeepOuts;
 use state::State;
@@ -8,23 +6,23 @@ ghost use mathlib.Core.Bool.{true};
 ghost use mathlib.Core.Path.{_≡_};
 ghost use Prim.Native.Nat.{_≤_};
 ghost use lib.Ieee.{le};
-ghost use Rattle.keep_out_table.specs.Table.{keepOutsOf};
 ghost use Rattle.columns.specs.Columns.{columnsOf};
-ghost use Rattle.motion.specs.Valid.{goodMount, validOf};
 ghost use Rattle.motion.specs.Points.{mostPoints, Least, stepsOf, pointAt};
 ghost use Rattle.motion.specs.Accepts.{acceptsOf};
-
-pub struct Mount {
-    pub limits: Limits,
-    pub segment: Length,
-    pub table: KeepOuts,
-}
 
 // How many points a motion check tests.
 pub enum Steps {
     Count(usize),
     // More than 4,096: the motion is not accepted.
     Many,
+}
+
+impl Steps {
+    // The part of a segment that one step takes.
+    pub const PART: f64 = 0.1;
+
+    // The most points of a motion that is looked at.
+    pub const MOST_POINTS: f64 = 4096.0;
 }
 
 // The least whole number that is not below q. A u32 becomes a float in one instruction, where a usize takes six.
@@ -46,8 +44,8 @@ fn least(q: f64) -> usize
 pub fn num_steps(segment: f64, from: State, to: State) -> Steps
     ensures { λ r. ⌜ r ≡ stepsOf segment from to ⌝ }
 {
-    let q = from.distance(to) / (segment * Mount::PART);
-    if q <= Mount::MOST_POINTS {
+    let q = from.distance(to) / (segment * Steps::PART);
+    if q <= Steps::MOST_POINTS {
         return Steps::Count(least(q));
     }
     Steps::Many
@@ -105,60 +103,4 @@ pub fn accepts<'a>(
         i += 1;
     }
     true
-}
-
-impl Mount {
-    // The part of a segment that one step takes.
-    pub const PART: f64 = 0.1;
-
-    // The most points of a motion that is looked at.
-    pub const MOST_POINTS: f64 = 4096.0;
-
-    pub fn is_good(self) -> bool
-        ensures { λ r. ⌜ r ≡ goodMount self ⌝ }
-    {
-        if self.limits.is_good() {
-            if self.segment.is_good() {
-                return self.table.is_good();
-            }
-        }
-        false
-    }
-
-    // Within the limits, and covered by no keep-out.
-    pub fn is_valid(self, s: State) -> bool
-        ensures { λ r. ⌜ r ≡ validOf (self .limits) (keepOutsOf (self .table)) s ⌝ }
-    {
-        let limits = self.limits;
-        if s.within(limits.low, limits.high) {
-            if self.table.covers(s) {
-                return false;
-            }
-            return true;
-        }
-        false
-    }
-
-    pub fn steps(self, from: State, to: State) -> Steps
-        ensures { λ r. ⌜ r ≡ stepsOf (self .segment .value) from to ⌝ }
-    {
-        num_steps(self.segment.value, from, to)
-    }
-
-    // Whether the motion from from to to is accepted.
-    pub fn check_motion(self, from: State, to: State) -> bool
-        ensures { λ r. ⌜ r ≡ acceptsOf (self .limits) (self .segment .value) (keepOutsOf (self .table)) from to ⌝ }
-    {
-        let columns = Columns::of(self.table);
-        let count = columns.count;
-        accepts(
-            self.limits,
-            self.segment.value,
-            &columns.kinds,
-            &columns.numbers,
-            count,
-            from,
-            to,
-        )
-    }
 }

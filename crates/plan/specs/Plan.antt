@@ -6,7 +6,7 @@ use Rattle.fields.specs.declared.Length.{Length}
 use Rattle.fields.specs.declared.Goal.{Goal}
 use Rattle.keep_out_table.specs.Table.{keepOutsOf}
 use Rattle.keep_out.specs.declared.KeepOut.{KeepOut}
-use Rattle.motion.specs.declared.Mount.{Mount}
+use Rattle.mount.specs.declared.Mount.{Mount}
 
 -- what a tree planner's setup gave, without the start
 pub record Plan : Type 0 where

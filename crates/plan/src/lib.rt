@@ -4,7 +4,7 @@ use fields::Goal;
 use fields::Length;
 use keep_out::KeepOut;
 use keep_out_table::KeepOuts;
-use motion::Mount;
+use mount::Mount;
 use state::State;
 use tree::Tree;
 ghost use mathlib.Core.Path.{_≡_};

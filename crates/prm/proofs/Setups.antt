@@ -11,7 +11,7 @@ use Rattle.fields.specs.declared.Limits.{Limits}
 use Rattle.fields.specs.declared.Length.{Length}
 use Rattle.fields.specs.declared.Goal.{Goal}
 use Rattle.keep_out_table.specs.declared.KeepOuts.{KeepOuts}
-use Rattle.motion.specs.declared.Mount.{Mount}
+use Rattle.mount.specs.declared.Mount.{Mount}
 use Rattle.plan.specs.Plan.{set}
 use Rattle.plan.specs.Setup.{goodSetup}
 use Rattle.plan.proofs.Answers as answers

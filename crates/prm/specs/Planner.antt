@@ -14,7 +14,7 @@ use Rattle.fields.specs.declared.Goal.{Goal}
 use Rattle.keep_out_table.specs.Table.{keepOutsOf}
 use Rattle.keep_out.specs.declared.KeepOut.{KeepOut}
 use Rattle.keep_out_table.specs.declared.KeepOuts.{KeepOuts}
-use Rattle.motion.specs.declared.Mount.{Mount}
+use Rattle.mount.specs.declared.Mount.{Mount}
 use Rattle.plan.specs.Plan.{Planner, unset, set}
 use Rattle.plan.specs.Setup.{Told, goodSetup, setupWith}
 use Rattle.roadmap.specs.Map as map

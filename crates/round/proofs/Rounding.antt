@@ -15,7 +15,8 @@ use Rattle.plan.specs.Plan.{Plan}
 use Rattle.turn.specs.declared.Ends.the-variants.{GoesOn}
 use Rattle.turn.specs.declared.Turned.{Turned}
 use Rattle.turn.specs.Turn.{After, turnOf, Columns, columnsAt, Holds, Turns}
-use Rattle.round.specs.Round.{Trees, sizeOf, roundOf, treesAt, Rounds}
+use Rattle.turn.specs.Trees.{Trees, sizeOf, treesAt}
+use Rattle.round.specs.Round.{roundOf, Rounds}
 
 -- a root stored in the first place
 pub planted :

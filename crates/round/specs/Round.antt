@@ -1,29 +1,21 @@
 -- Document 01, "RRT-Connect": if the goal tree is empty, the next sample becomes its root, untested. Each later sample grows the start
 -- tree when its size is at most the goal tree's, else the goal tree.
-use Prim.Native.Nat.{ℕ}
 use mathlib.Core.Bool.{true, false, cond}
 use mathlib.Core.Path.{_≡_}
 use lib.Dec.{eqb, leb}
-use lib.ListN.{length}
 use Rattle.state.specs.declared.State.{State}
-use Rattle.tree.specs.Table.{Nodes, nodesIn, rootOf}
+use Rattle.tree.specs.Table.{rootOf}
 use Rattle.plan.specs.Plan.{Plan}
 use Rattle.turn.specs.declared.Ends.{Ends}
 use Rattle.turn.specs.declared.Ends.the-variants.{GoesOn}
 use Rattle.round.specs.declared.Rounded.{Rounded}
 use Rattle.turn.specs.Turn.{turnOf, Columns, Holds}
-
-pub record Trees : Type 0 where
-  pub start : Nodes
-  pub goal : Nodes
+use Rattle.turn.specs.Trees.{Trees, sizeOf}
 
 -- both trees after a sample, and what it led to
 pub record Round : Type 0 where
   pub trees : Trees
   pub ends : Ends
-
-abbrev pub sizeOf : Nodes → ℕ
-sizeOf nodes = length (nodes .states)
 
 unfoldable pub roundOf : Plan → Trees → State → Round
 roundOf p t sample =
@@ -33,11 +25,6 @@ roundOf p t sample =
     let startGrows : Round = record { trees = record { start = a .growing; goal = a .other }; ends = a .ends } in
     let goalGrows : Round = record { trees = record { start = b .other; goal = b .growing }; ends = b .ends } in
     cond (eqb (sizeOf (t .goal)) 0) planted (cond (leb (sizeOf (t .start)) (sizeOf (t .goal))) startGrows goalGrows)
-
--- the trees that two sets of columns hold
-unfoldable pub treesAt : ℕ → Columns → ℕ → Columns → Trees
-treesAt n c m d =
-    record { start = nodesIn n (c .az) (c .el) (c .feed) (c .parent); goal = nodesIn m (d .az) (d .el) (d .feed) (d .parent) }
 
 -- what the code's round gives, and both trees' columns at exit
 pub record Rounds (p : Plan) (t : Trees) (sample : State) (r : Rounded) (c d : Columns) : Type 0 where

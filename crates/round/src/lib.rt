@@ -9,7 +9,8 @@ ghost use Rattle.columns.specs.Columns.{columnsOf};
 ghost use Rattle.tree.specs.Table.{rootOf};
 ghost use Rattle.extend.specs.Extend.{Sized};
 ghost use Rattle.turn.specs.Turn.{planWith, columnsAt, Holds};
-ghost use Rattle.round.specs.Round.{treesAt, Rounds};
+ghost use Rattle.turn.specs.Trees.{treesAt};
+ghost use Rattle.round.specs.Round.{Rounds};
 
 // How a sample ended, and how many nodes the trees have then.
 pub struct Rounded {

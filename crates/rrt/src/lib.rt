@@ -5,7 +5,7 @@ use fields::Length;
 use fields::Limits;
 use keep_out::KeepOut;
 use keep_out_table::KeepOuts;
-use motion::Mount;
+use mount::Mount;
 use state::State;
 use tree::NodeAt;
 use tree::Tree;

@@ -14,7 +14,7 @@ use Rattle.plan.specs.Solve.{Ended, Outcome, refusedOf, endedOf}
 use Rattle.plan.proofs.Answers as answers
 use Rattle.rrt_connect.specs.declared.RrtConnect.{RrtConnect}
 use Rattle.connect_run.specs.declared.Ran.{Ran}
-use Rattle.round.specs.Round.{Trees}
+use Rattle.turn.specs.Trees.{Trees}
 use Rattle.rrt_connect.specs.Planner.{usableOf, treesOf, plannerOf}
 use Rattle.connect_run.specs.Run.{Runs}
 use Rattle.rrt_connect.specs.Solve.{needed, runFrom, solveOf}

@@ -9,7 +9,7 @@ use Rattle.fields.specs.declared.Length.{Length}
 use Rattle.fields.specs.declared.Goal.{Goal}
 use Rattle.keep_out.specs.declared.KeepOut.{KeepOut}
 use Rattle.keep_out_table.specs.declared.KeepOuts.{KeepOuts}
-use Rattle.motion.specs.declared.Mount.{Mount}
+use Rattle.mount.specs.declared.Mount.{Mount}
 use Rattle.tree.specs.Table.{nodesOf, nodeAtOf, rootOf, noNodes}
 use Rattle.tree.specs.declared.NodeAt.{NodeAt}
 use Rattle.tree.specs.declared.NodeAt.the-variants.{Nothing}
@@ -17,7 +17,7 @@ use Rattle.plan.specs.Plan.{Plan, planFrom, planUnder, Planner, unset, set}
 use Rattle.plan.specs.Setup as setup
 use Rattle.plan.specs.Setup.{Told, goodSetup, setupWith}
 use Rattle.plan.specs.KeepOut.{addWith}
-use Rattle.round.specs.Round.{Trees, sizeOf}
+use Rattle.turn.specs.Trees.{Trees, sizeOf}
 use Rattle.rrt_connect.specs.declared.RrtConnect.{RrtConnect}
 use Rattle.rrt_connect.specs.declared.Answered.{Answered}
 

@@ -5,7 +5,7 @@ use lib.Ieee.{Float}
 use Rattle.state.specs.declared.State.{State}
 use Rattle.plan.specs.Plan.{Plan}
 use Rattle.plan.specs.Solve.{Ended, Outcome, solveWith}
-use Rattle.round.specs.Round.{Trees}
+use Rattle.turn.specs.Trees.{Trees}
 use Rattle.rrt_connect.specs.Planner.{View, plannerOf}
 use Rattle.connect_run.specs.Run.{runOf}
 use Rattle.rrt_connect.specs.declared.Solved.{Solved}

@@ -13,7 +13,7 @@ use Rattle.fields.specs.Satisfied.{satisfiedOf}
 use Rattle.state.specs.declared.State.{State}
 use Rattle.fields.specs.declared.Goal.{Goal}
 use Rattle.fields.specs.declared.Length.{Length}
-use Rattle.motion.specs.declared.Mount.{Mount}
+use Rattle.mount.specs.declared.Mount.{Mount}
 use Rattle.samples.specs.Samples.{samplesOf}
 use Rattle.tree.specs.Table.{Nodes, nodesOf, grownOf}
 use Rattle.step.specs.Step.{stepOf}

@@ -12,7 +12,7 @@ use Rattle.fields.specs.declared.Length.{Length}
 use Rattle.fields.specs.declared.Goal.{Goal}
 use Rattle.keep_out.specs.declared.KeepOut.{KeepOut}
 use Rattle.keep_out_table.specs.declared.KeepOuts.{KeepOuts}
-use Rattle.motion.specs.declared.Mount.{Mount}
+use Rattle.mount.specs.declared.Mount.{Mount}
 use Rattle.tree.specs.Table.{nodeAtOf, rootOf}
 use Rattle.tree.specs.declared.NodeAt.{NodeAt}
 use Rattle.tree.specs.declared.NodeAt.the-variants as node

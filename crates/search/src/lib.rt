@@ -3,7 +3,7 @@
 use columns::Columns;
 use fields::Goal;
 use fields::Limits;
-use motion::Mount;
+use mount::Mount;
 use roadmap::Roadmap;
 use state::State;
 use tree::Tree;

@@ -13,7 +13,7 @@ use Rattle.fields.specs.declared.Goal.{Goal}
 use Rattle.fields.specs.declared.Length.{Length}
 use Rattle.keep_out_table.specs.Table.{keepOutsOf}
 use Rattle.keep_out.specs.declared.KeepOut.{KeepOut}
-use Rattle.motion.specs.declared.Mount.{Mount}
+use Rattle.mount.specs.declared.Mount.{Mount}
 use Rattle.samples.specs.Samples.{samplesOf}
 use Rattle.tree.specs.declared.Tree.{Tree}
 use Rattle.extend.specs.declared.Verdict.{Verdict}

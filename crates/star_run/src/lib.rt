@@ -4,7 +4,7 @@ use columns::Columns;
 use extend::Verdict;
 use fields::Goal;
 use fields::Length;
-use motion::Mount;
+use mount::Mount;
 use state::State;
 use tree::Tree;
 ghost use Prim.Native.Nat.{_≤_, _<_};

@@ -20,7 +20,7 @@ use Rattle.extend.specs.Extend.{Sized}
 use Rattle.plan.specs.Plan.{Plan, planFrom}
 use Rattle.plan.specs.Solve.{Ended}
 use Rattle.turn.specs.Turn.{planWith, Columns, columnsAt}
-use Rattle.round.specs.Round.{Trees, treesAt}
+use Rattle.turn.specs.Trees.{Trees, treesAt}
 use Rattle.ending.specs.Ending.{answerOf, endPath}
 use Rattle.connect_run.specs.Run.{runOf}
 use Rattle.connect_run.proofs.Runs.{turn-on, turn-ends}

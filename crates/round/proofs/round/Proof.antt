@@ -2,7 +2,7 @@
 use mathlib.Core.Path.{refl}
 use denote.Ref.{now}
 use Rattle.turn.specs.Turn.{columnsAt}
-use Rattle.round.specs.Round.{treesAt}
+use Rattle.turn.specs.Trees.{treesAt}
 use Rattle.round.proofs.Rounding.{round-planted, round-start, round-goal}
 use borrow.Author.Needs.{needs}
 use Rattle.round.proofs.round.Statement.{statement}

@@ -1,9 +1,9 @@
--- `motion::Mount::is_good` meets its contract.
+-- `mount::Mount::is_good` meets its contract.
 use Rattle.laws.specs.Cases.{cases}
-use Rattle.motion.specs.Valid.{goodMount}
+use Rattle.mount.specs.Good.{goodMount}
 use borrow.Author.Needs.{needs}
-use Rattle.motion.proofs.Mount.is_good.Statement.{statement}
-use Rattle.motion.proofs.Mount.is_good.Tie as tie
+use Rattle.mount.proofs.Mount.is_good.Statement.{statement}
+use Rattle.mount.proofs.Mount.is_good.Tie as tie
 
 is-good-requires : tie.Need-is-good-requires
 is-good-requires c κs = search needs

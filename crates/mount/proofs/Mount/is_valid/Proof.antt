@@ -1,9 +1,9 @@
--- `motion::Mount::is_valid` meets its contract.
+-- `mount::Mount::is_valid` meets its contract.
 use Rattle.laws.specs.Cases.{cases}
 use Rattle.motion.specs.Valid.{validOf}
 use borrow.Author.Needs.{needs}
-use Rattle.motion.proofs.Mount.is_valid.Statement.{statement}
-use Rattle.motion.proofs.Mount.is_valid.Tie as tie
+use Rattle.mount.proofs.Mount.is_valid.Statement.{statement}
+use Rattle.mount.proofs.Mount.is_valid.Tie as tie
 
 within-requires : tie.Need-within-requires
 within-requires c κs = search needs

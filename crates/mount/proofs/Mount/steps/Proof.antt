@@ -1,7 +1,7 @@
--- `motion::Mount::steps` meets its contract.
+-- `mount::Mount::steps` meets its contract.
 use borrow.Author.Needs.{needs}
-use Rattle.motion.proofs.Mount.steps.Statement.{statement}
-use Rattle.motion.proofs.Mount.steps.Tie as tie
+use Rattle.mount.proofs.Mount.steps.Statement.{statement}
+use Rattle.mount.proofs.Mount.steps.Tie as tie
 
 num-steps-requires : tie.Need-num-steps-requires
 num-steps-requires c κs = search needs

@@ -1,7 +1,7 @@
--- `motion::Mount::check_motion` meets its contract.
+-- `mount::Mount::check_motion` meets its contract.
 use borrow.Author.Needs.{needs}
-use Rattle.motion.proofs.Mount.check_motion.Statement.{statement}
-use Rattle.motion.proofs.Mount.check_motion.Tie as tie
+use Rattle.mount.proofs.Mount.check_motion.Statement.{statement}
+use Rattle.mount.proofs.Mount.check_motion.Tie as tie
 
 of-requires : tie.Need-of-requires
 of-requires c κs = search needs
