@@ -4,8 +4,8 @@ use mathlib.Core.Bool.{Bool, false, _&&_, _||_}
 use mathlib.Core.List.{List, [], _∷_}
 use mathlib.Core.Path.{_≡_}
 use lib.Dec.{eqb, ltb}
-use lib.ListN.{getD, length}
-use lib.Ieee.{Float, nan}
+use lib.ListN.{length}
+use lib.Ieee.{Float}
 use Rattle.state.specs.Rows.{rowAt}
 use Rattle.legs.specs.Bits.{legAt}
 use Rattle.roadmap.specs.declared.Roadmap.{Roadmap}

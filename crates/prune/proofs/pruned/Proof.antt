@@ -4,7 +4,6 @@ use mathlib.Core.Logic.{⊎-elim}
 use mathlib.Core.Path.{_≡_, refl, sym, _∙_, ap}
 use native.Mathlib.Omega.{arith}
 use borrow.Author.Needs.{needs}
-use Rattle.state.specs.Rows.{rowAt}
 use Rattle.roadmap.specs.View.{viewOf, milestonesOf}
 use Rattle.prune.proofs.Pruning.{Pruning, prune-starts, prune-gone, prune-kept, prune-ends}
 use Rattle.prune.proofs.pruned.Statement.{statement}

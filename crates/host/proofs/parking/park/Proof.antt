@@ -1,5 +1,4 @@
 -- `host::parking::park` meets its contract: all rows give what the rows that are left give on the planner so far.
-use Prim.Native.Nat.{_-_}
 use mathlib.Core.Path.{_≡_, refl}
 use native.Mathlib.Omega.{arith}
 use borrow.Author.Needs.{needs}

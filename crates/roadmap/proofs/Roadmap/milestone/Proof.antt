@@ -2,7 +2,6 @@
 use Prim.Native.Nat.{min}
 use mathlib.Core.Path.{_≡_, _∙_}
 use native.Mathlib.Omega.{arith}
-use Rattle.state.specs.Rows.{rowAt}
 use Rattle.roadmap.specs.View.{milestonesOf}
 use Rattle.roadmap.proofs.View.{view-long, state-at, nothing-at}
 use borrow.Author.Needs.{needs}
