@@ -2,7 +2,7 @@
 // many are used then; a full buffer is written first.
 pub mod nodes;
 pub mod replies;
-pub mod route_buffer;
+pub mod routes;
 
 use libc::STDOUT_FILENO;
 use state::State;

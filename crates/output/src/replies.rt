@@ -1,5 +1,5 @@
 // What a planner's call answered.
-use crate::route_buffer;
+use crate::routes;
 use answer::Answer;
 
 // The answer's number, the count of states and the samples taken.
@@ -24,6 +24,6 @@ pub fn routed(out: &mut [u8], reply: Answer, count: usize, taken: usize, route: 
     let used = crate::text(out, 0, b"= ");
     let used = answer(out, used, reply, count, taken);
     let used = crate::byte(out, used, b'\n');
-    let used = route_buffer::write(out, used, route, count);
+    let used = routes::write(out, used, route, count);
     crate::flush(out, used);
 }

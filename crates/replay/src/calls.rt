@@ -1,5 +1,6 @@
 // The script, line after line: each call is made and answered, up to the input's end or the first line that is no call.
 use grammar::Planner;
+use input::Input;
 use mount_calls::Kept;
 use prm::Prm;
 use rrt::Rrt;
@@ -7,8 +8,6 @@ use rrt_connect::RrtConnect;
 use rrt_star::RrtStar;
 use script::Kind;
 use script::Line;
-use words::input;
-use words::input::Input;
 
 // What the calls work on: one planner of each kind, and the mount.
 struct Planners {

@@ -1,9 +1,9 @@
 // The keep-outs that end a line: `box` and six numbers, `disc` and three, or `floor` and one.
 use crate::numbers;
+use input::Input;
 use keep_out::KeepOut;
 use keep_out_table::KeepOuts;
 use state::State;
-use words::input::Input;
 use words::word;
 
 enum Shape {

@@ -4,9 +4,8 @@ use crate::numbers;
 use grammar::Planner;
 use grammar::Row;
 use grammar::Verb;
+use input::Input;
 use keep_out_table::KeepOuts;
-use words::input;
-use words::input::Input;
 use words::word;
 
 pub enum Kind {

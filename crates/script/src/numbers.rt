@@ -1,7 +1,7 @@
 // The numbers of a line: a capacity, and so many numbers or a list of them.
 use grammar::Row;
+use input::Input;
 use numeral::NumeralMade;
-use words::input::Input;
 use words::number;
 use words::number::Whole;
 use words::word;

@@ -1,4 +1,3 @@
 // The words of standard input, and the number that a word is.
-pub mod input;
 pub mod number;
 pub mod word;

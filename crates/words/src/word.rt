@@ -1,6 +1,5 @@
 // The words of a line: bytes that stand apart by spaces or tabs. `#` starts a comment that runs to the line's end.
-use crate::input;
-use crate::input::Input;
+use input::Input;
 ghost use Rattle.io.specs.Counts.{Counts};
 
 // A word, and the input after it. The longest word that a call can have is 17 bytes long, so one that is cut at 18 fits no call. No

@@ -1,10 +1,10 @@
--- `output::route_buffer::states` is safe and ends: the numbers that are left fall.
+-- `output::routes::states` is safe and ends: the numbers that are left fall.
 use borrow.Author.Needs.{needs}
 use lib.ListN.{length}
 use Prim.Native.Nat.{_≤_, _-_}
 use mathlib.Core.Path.{_≡_}
-use Rattle.output.proofs.route_buffer.states.Statement.{statement}
-use Rattle.output.proofs.route_buffer.states.Tie as tie
+use Rattle.output.proofs.routes.states.Statement.{statement}
+use Rattle.output.proofs.routes.states.Tie as tie
 
 abbrev Inv-loop : tie.InvT-loop
 Inv-loop out₀ used route end used₀ at₀ t8 out used' at = (length out ≡ length out₀) × (at ≤ end)

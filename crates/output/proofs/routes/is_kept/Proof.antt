@@ -1,9 +1,9 @@
--- `output::route_buffer::is_kept` is safe and ends: the numbers that are left fall.
+-- `output::routes::is_kept` is safe and ends: the numbers that are left fall.
 use borrow.Author.Needs.{needs}
 use lib.ListN.{length}
 use Prim.Native.Nat.{_≤_, _-_}
-use Rattle.output.proofs.route_buffer.is_kept.Statement.{statement}
-use Rattle.output.proofs.route_buffer.is_kept.Tie as tie
+use Rattle.output.proofs.routes.is_kept.Statement.{statement}
+use Rattle.output.proofs.routes.is_kept.Tie as tie
 
 abbrev Inv-loop : tie.InvT-loop
 Inv-loop route from i₀ i = i ≤ length route

@@ -1,22 +1,7 @@
-// The buffer that a route is written into: what stands in it before a call, and what it has after one.
+// What a call left in the buffer that a route is written into.
 use state::State;
 ghost use Prim.Native.Nat.{_≤_};
 ghost use lib.ListN.{length};
-
-// What stands at each place before a call.
-const BEFORE: f64 = 7.25;
-
-pub fn fresh() -> [f64; 4096] {
-    [BEFORE; 4096]
-}
-
-// The first so many numbers, or all where there are fewer.
-pub fn first(buffer: &mut [f64], capacity: usize) -> &mut [f64] {
-    if capacity <= buffer.len() {
-        return &mut buffer[..capacity];
-    }
-    buffer
-}
 
 // How many numbers so many states have, or all where the buffer has no room for them.
 fn written(route: &[f64], count: usize) -> usize
@@ -54,7 +39,7 @@ fn is_kept(route: &[f64], from: usize) -> bool
 {
     let mut i = from;
     while i < route.len() {
-        if route[i] != BEFORE {
+        if route[i] != route_buffer::BEFORE {
             return false;
         }
         i += 1;

@@ -1,5 +1,7 @@
 // Standard input, byte after byte, through a buffer that the caller lends.
 use libc::STDIN_FILENO;
+ghost use mathlib.Core.Path.{_≡_};
+ghost use Rattle.input.specs.Input.{newOf, nextOf};
 
 // More bytes than any input has: what a loop over input counts down from, so that it is seen to end.
 pub const MOST: u64 = 0x4000_0000_0000_0000;
@@ -18,7 +20,10 @@ pub struct Peeked {
 }
 
 impl Input {
-    pub fn new() -> Input {
+    // Before the first byte.
+    pub fn new() -> Input
+        ensures { λ r. ⌜ r ≡ newOf ⌝ }
+    {
         Input {
             at: 0,
             end: 0,
@@ -27,7 +32,9 @@ impl Input {
     }
 
     // Past the next byte. The end of the input is not passed.
-    pub fn next(self) -> Input {
+    pub fn next(self) -> Input
+        ensures { λ r. ⌜ r ≡ nextOf self ⌝ }
+    {
         if self.at < self.end {
             return Input {
                 at: self.at + 1,
