@@ -1,4 +1,7 @@
 // The rows of the table of calls: which words a line starts with, and what follows them. A new call is a verb and its row.
+ghost use mathlib.Core.Path.{_≡_};
+ghost use Rattle.grammar.specs.Rows.{setupRow, numbersRow, listRow, keepOutRow, noRow, mountRow, treeRow, prmRow, rowOf};
+ghost use Rattle.grammar.specs.Words.{plannerOf, verbOf, leafVerbOf};
 
 pub enum Planner {
     Mount,
@@ -41,7 +44,9 @@ impl Row {
     const MOST_KEEP_OUTS: usize = 40;
 
     // Limits, a segment length and what the planner has more of numbers, and any keep-outs.
-    fn setup(numbers: u64) -> Row {
+    fn setup(numbers: u64) -> Row
+        ensures { λ r. ⌜ r ≡ setupRow numbers ⌝ }
+    {
         Row {
             is_call: true,
             has_capacity: false,
@@ -52,7 +57,9 @@ impl Row {
         }
     }
 
-    fn of_numbers(numbers: u64) -> Row {
+    fn of_numbers(numbers: u64) -> Row
+        ensures { λ r. ⌜ r ≡ numbersRow numbers ⌝ }
+    {
         Row {
             is_call: true,
             has_capacity: false,
@@ -63,7 +70,9 @@ impl Row {
         }
     }
 
-    fn of_list(has_capacity: bool, has_list: bool) -> Row {
+    fn of_list(has_capacity: bool, has_list: bool) -> Row
+        ensures { λ r. ⌜ r ≡ listRow «has_capacity» «has_list» ⌝ }
+    {
         Row {
             is_call: true,
             has_capacity,
@@ -74,7 +83,9 @@ impl Row {
         }
     }
 
-    fn of_keep_out() -> Row {
+    fn of_keep_out() -> Row
+        ensures { λ r. ⌜ r ≡ keepOutRow ⌝ }
+    {
         Row {
             is_call: true,
             has_capacity: false,
@@ -85,7 +96,9 @@ impl Row {
         }
     }
 
-    fn none() -> Row {
+    fn none() -> Row
+        ensures { λ r. ⌜ r ≡ noRow ⌝ }
+    {
         Row {
             is_call: false,
             has_capacity: false,
@@ -96,7 +109,9 @@ impl Row {
         }
     }
 
-    pub fn of(planner: Planner, verb: Verb) -> Row {
+    pub fn of(planner: Planner, verb: Verb) -> Row
+        ensures { λ r. ⌜ r ≡ rowOf planner verb ⌝ }
+    {
         match planner {
             Planner::Mount => Row::of_mount(verb),
             Planner::Rrt => Row::of_tree(verb, 15),
@@ -107,7 +122,9 @@ impl Row {
         }
     }
 
-    fn of_mount(verb: Verb) -> Row {
+    fn of_mount(verb: Verb) -> Row
+        ensures { λ r. ⌜ r ≡ mountRow verb ⌝ }
+    {
         match verb {
             Verb::Setup => Row::setup(7),
             Verb::Distance => Row::of_numbers(6),
@@ -120,7 +137,9 @@ impl Row {
         }
     }
 
-    fn of_tree(verb: Verb, numbers: u64) -> Row {
+    fn of_tree(verb: Verb, numbers: u64) -> Row
+        ensures { λ r. ⌜ r ≡ treeRow numbers verb ⌝ }
+    {
         match verb {
             Verb::Setup => Row::setup(numbers),
             Verb::Keepout => Row::of_keep_out(),
@@ -130,7 +149,9 @@ impl Row {
         }
     }
 
-    fn of_prm(verb: Verb) -> Row {
+    fn of_prm(verb: Verb) -> Row
+        ensures { λ r. ⌜ r ≡ prmRow verb ⌝ }
+    {
         match verb {
             Verb::Setup => Row::setup(15),
             Verb::Keepout => Row::of_keep_out(),
@@ -143,7 +164,9 @@ impl Row {
     }
 }
 
-pub fn planner_of(word: &[u8]) -> Planner {
+pub fn planner_of(word: &[u8]) -> Planner
+    ensures { λ r. ⌜ r ≡ plannerOf (now (word .entry)) ⌝ }
+{
     if check::same(word, b"mount") {
         return Planner::Mount;
     }
@@ -162,7 +185,9 @@ pub fn planner_of(word: &[u8]) -> Planner {
     Planner::Other
 }
 
-pub fn verb_of(word: &[u8]) -> Verb {
+pub fn verb_of(word: &[u8]) -> Verb
+    ensures { λ r. ⌜ r ≡ verbOf (now (word .entry)) ⌝ }
+{
     if check::same(word, b"setup") {
         return Verb::Setup;
     }
@@ -188,7 +213,9 @@ pub fn verb_of(word: &[u8]) -> Verb {
 }
 
 // The verbs of the mount's own calls.
-fn leaf_verb_of(word: &[u8]) -> Verb {
+fn leaf_verb_of(word: &[u8]) -> Verb
+    ensures { λ r. ⌜ r ≡ leafVerbOf (now (word .entry)) ⌝ }
+{
     if check::same(word, b"distance") {
         return Verb::Distance;
     }
