@@ -6,7 +6,6 @@ use output::replies;
 use output::route_buffer;
 use rrt_connect::RrtConnect;
 use script::Line;
-use script::given;
 
 // Whether the call was made, and the planner after it.
 pub struct Called {

@@ -7,7 +7,6 @@ use keep_out_table::KeepOuts;
 use motion::Mount;
 use motion::Steps;
 use output::replies;
-use script::given;
 use state::State;
 
 // The mount of the last accepted setup, if there was one.

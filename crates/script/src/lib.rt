@@ -1,5 +1,4 @@
 // A line of a script as a call.
-pub mod given;
 mod keep_outs;
 mod line;
 mod numbers;
