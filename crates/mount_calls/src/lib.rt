@@ -8,6 +8,8 @@ use motion::Steps;
 use mount::Mount;
 use output::replies;
 use state::State;
+ghost use mathlib.Core.Path.{_≡_};
+ghost use Rattle.mount_calls.specs.None.{noneOf};
 
 // The mount of the last accepted setup, if there was one.
 pub struct Kept {
@@ -30,7 +32,10 @@ struct Done {
     kept: Kept,
 }
 
-pub fn none() -> Kept {
+// Before any setup.
+pub fn none() -> Kept
+    ensures { λ r. ⌜ r ≡ noneOf ⌝ }
+{
     let zero = State {
         az: 0.0,
         el: 0.0,

@@ -12,7 +12,7 @@ number-after-requires c κs = search needs
 
 returns : tie.Need-returns
 unfolding goalAt
-returns c = cc
+returns c = rw (c .before .state .ensures, c .number-after .ensures)
 
 pub goal-spec : {M : Type 1} → statement M
 goal-spec = tie.close (tie.spec state-requires number-after-requires returns)

@@ -9,7 +9,7 @@ number-requires c κs = search needs
 
 returns : tie.Need-returns
 unfolding lengthAt
-returns c = cc
+returns c = rw (c .number .ensures)
 
 pub length-spec : {M : Type 1} → statement M
 length-spec = tie.close (tie.spec number-requires returns)

@@ -24,7 +24,15 @@ number-requires-6 c κs = search needs
 
 returns : tie.Need-returns
 unfolding limitsIn
-returns c = cc
+returns c =
+    rw (
+      c .before .before .before .before .before .number .ensures,
+      c .before .before .before .before .number2 .ensures,
+      c .before .before .before .number3 .ensures,
+      c .before .before .number4 .ensures,
+      c .before .number5 .ensures,
+      c .number6 .ensures,
+    )
 
 pub limits-spec : {M : Type 1} → statement M
 limits-spec =

@@ -15,7 +15,7 @@ number-after-requires-2 c κs = search needs
 
 returns : tie.Need-returns
 unfolding stateAt
-returns c = cc
+returns c = rw (c .before .before .number .ensures, c .before .number-after .ensures, c .number-after2 .ensures)
 
 pub state-spec : {M : Type 1} → statement M
 state-spec =
