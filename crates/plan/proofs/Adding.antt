@@ -1,6 +1,6 @@
 -- One keep-out more: the table's list, and a planner's answer.
 use Prim.Native.Nat.{_+_, _≤_, _<_, min}
-use mathlib.Core.Bool.{true, false}
+use mathlib.Core.Bool.{Bool, true, false}
 use mathlib.Core.List.{List, [], _∷_, _++_, map-append}
 use mathlib.Core.Path.{_≡_, _∙_, ap}
 use native.Mathlib.Omega.{arith}
@@ -10,6 +10,7 @@ use lib.Dec.{ltb}
 use lib.ListN.{length, take, set, length-map, length-take}
 use lib.Seq.{take-suc-set}
 use Rattle.laws.specs.Order.{whether, clash}
+use Rattle.answer.specs.declared.Answer.{Answer}
 use Rattle.answer.specs.declared.Answer.the-variants.{Done, Uninitialised, BadInput, Full}
 use Rattle.keep_out.specs.Good.{goodKeepOut}
 use Rattle.keep_out_table.specs.Table.{heldOf, keepOutsOf, withOf}
@@ -17,9 +18,12 @@ use Rattle.keep_out.specs.declared.KeepOut.{KeepOut}
 use Rattle.keep_out_table.specs.declared.KeepOuts.{KeepOuts}
 use Rattle.keep_out_table.specs.declared.Slot.{Slot}
 use Rattle.keep_out_table.specs.declared.Longer as keep-out
-use Rattle.plan.specs.Plan as plan
-use Rattle.plan.specs.Plan.{Planner, unset}
-use Rattle.plan.specs.KeepOut.{Longer, longerOf, addWith}
+use Rattle.plan.specs.Plan.{Plan, planOf, planUnder, Planner, viewOf}
+use Rattle.plan.specs.Setup.{Told}
+use Rattle.plan.specs.KeepOut.{Longer, longerOf, Added, moreOf, longerSetting, addWith}
+use Rattle.plan.specs.declared.Setting.{Setting}
+use Rattle.plan.specs.declared.More.{More}
+use Rattle.plan.proofs.Views.{view-set, view-unset}
 
 -- how many there are
 module _ (t : KeepOuts) (size : length (t .slots) ≡ 32) where
@@ -65,14 +69,34 @@ module _ (t : KeepOuts) (size : length (t .slots) ≡ 32) where
         let h : length (keepOutsOf t) < 32 = omega (arith, many, room e) in
         rw (longer (room e), good, lt-ltb (length (keepOutsOf t)) 32 h)
 
--- a planner's answer, for any plan and any tables
-module _ {P A : Type 0} (list : P → List KeepOut) (under : P → List KeepOut → P) (planner : Planner P A) (k : KeepOut) where
-  pub add-unset : planner ≡ unset → record { planner = planner; answer = Uninitialised } ≡ addWith list under planner k
-  unfolding addWith
-  add-unset e = rw e
+-- the same of a setting
+module _ (s : Setting) (k : KeepOut) (keepOuts : List KeepOut) (answer : Answer) where
+  pub longer-setting :
+      record { keepOuts = keepOuts; answer = answer } ≡ longerOf (keepOutsOf (s .mount .table)) k →
+      record { ready = s .ready; plan = planUnder (planOf s) keepOuts; answer = answer } ≡ longerSetting s k
+  unfolding longerSetting
+  longer-setting e = ap (λ (l : Longer). record { ready = s .ready; plan = planUnder (planOf s) (l .keepOuts); answer = l .answer }) e
 
-  pub add-set :
-      (p : P) (tables : A) → planner ≡ plan.set p tables → (m : Longer) → m ≡ longerOf (list p) k → (made : Planner P A) → made ≡ plan.set (under p (m .keepOuts)) tables →
-      record { planner = made; answer = m .answer } ≡ addWith list under planner k
+-- a planner's answer, for any plan and any tables
+module _ {P A : Type 0} (list : P → List KeepOut) (under : P → List KeepOut → P) (tables : A) (k : KeepOut) where
+  pub add-unset :
+      (usable : Bool) (plan : P) → usable ≡ false →
+      record { planner = viewOf usable plan tables; answer = Uninitialised } ≡ addWith list under (viewOf usable plan tables) k
   unfolding addWith
-  add-set p tables u m is made e = rw (e, u, ← is)
+  add-unset usable plan u = rw (view-unset usable plan tables u)
+
+  -- `of` makes the plan of what every planner's setup gives, and whether a planner can be used hangs on `ready` and on its tables
+  module _ (of : Plan → P) (lists : (q : Plan) → list (of q) ≡ q .keepOuts) (unders : (q : Plan) (ks : List KeepOut) → under (of q) ks ≡ of (planUnder q ks)) (usable : Bool → Bool) where
+    abbrev told : Added → Told P A
+    told m = record { planner = viewOf (usable (m .ready)) (of (m .plan)) tables; answer = m .answer }
+
+    module _ (s : Setting) (u : usable (s .ready) ≡ true) where
+      abbrev planner : Planner P A
+      planner = viewOf (usable (s .ready)) (of (planOf s)) tables
+
+      kept : told (longerSetting s k) ≡ addWith list under planner k
+      unfolding addWith longerSetting
+      kept = rw (view-set (usable (s .ready)) (of (longerSetting s k .plan)) tables u, view-set (usable (s .ready)) (of (planOf s)) tables u, lists (planOf s), unders (planOf s) _)
+
+      pub add-set : (m : More) → moreOf m ≡ longerSetting s k → told (moreOf m) ≡ addWith list under planner k
+      add-set m is = ap told is ∙ kept

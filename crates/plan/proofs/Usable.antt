@@ -5,6 +5,8 @@ use mathlib.Core.Path.{_≡_, sym, _∙_}
 use borrow.Author.Tests.{lt-ltb, le-ltb, le-leb, ltb-true, leb-true}
 use lib.Dec.{ltb, leb}
 use Rattle.laws.specs.Order.{whether, clash}
+use Rattle.state.specs.declared.State.{State}
+use Rattle.tree.specs.Table.{rootedOf}
 use Rattle.plan.specs.Setup.{usableOf}
 
 module _ (ready : Bool) (count : ℕ) where
@@ -19,6 +21,11 @@ module _ (ready : Bool) (count : ℕ) where
   pub usable-no : ready ≡ false → false ≡ usableOf ready count
   unfolding usableOf
   usable-no e = rw e
+
+  -- a tree that is its root alone
+  pub usable-root : (start : State) → ready ≡ true → count ≡ rootedOf start .count → usableOf ready count ≡ true
+  unfolding usableOf rootedOf
+  usable-root start e r = rw (e, r)
 
   -- a count that a tree can have is usable
   pub usable-count : ready ≡ true → 0 < count → count ≤ 512 → usableOf ready count ≡ true

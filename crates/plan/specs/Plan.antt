@@ -1,4 +1,5 @@
 -- What a planner is to its caller, whatever its plan and its tables are.
+use mathlib.Core.Bool.{Bool, cond}
 use mathlib.Core.List.{List}
 use lib.Ieee.{Float}
 use Rattle.fields.specs.declared.Limits.{Limits}
@@ -7,6 +8,7 @@ use Rattle.fields.specs.declared.Goal.{Goal}
 use Rattle.keep_out_table.specs.Table.{keepOutsOf}
 use Rattle.keep_out.specs.declared.KeepOut.{KeepOut}
 use Rattle.mount.specs.declared.Mount.{Mount}
+use Rattle.plan.specs.declared.Setting.{Setting}
 
 -- what a tree planner's setup gave, without the start
 pub record Plan : Type 0 where
@@ -21,6 +23,9 @@ abbrev pub planFrom : Mount → Length → Goal → Plan
 planFrom mount max goal =
     record { limits = mount .limits; segment = mount .segment .value; keepOuts = keepOutsOf (mount .table); max = max .value; goal = goal }
 
+abbrev pub planOf : Setting → Plan
+planOf s = planFrom (s .mount) (s .reach) (s .goal)
+
 -- the same under another list of keep-outs
 abbrev pub planUnder : Plan → List KeepOut → Plan
 planUnder p ks = record { limits = p .limits; segment = p .segment; keepOuts = ks; max = p .max; goal = p .goal }
@@ -29,3 +34,7 @@ planUnder p ks = record { limits = p .limits; segment = p .segment; keepOuts = k
 pub data Planner (P A : Type 0) : Type 0 where
   unset : Planner P A
   set : P → A → Planner P A
+
+-- what a planner's values make: nothing counts of one that cannot be used
+unfoldable pub viewOf : {P A : Type 0} → Bool → P → A → Planner P A
+viewOf usable plan tables = cond usable (set plan tables) unset

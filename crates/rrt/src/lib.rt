@@ -5,7 +5,7 @@ use fields::Length;
 use fields::Limits;
 use keep_out::KeepOut;
 use keep_out_table::KeepOuts;
-use mount::Mount;
+use plan::Setting;
 use state::State;
 use tree::NodeAt;
 use tree::Tree;
@@ -15,10 +15,7 @@ ghost use Rattle.rrt.specs.Solve.{solvedOf, solveOf};
 
 // What an accepted setup gave, and the tree that has grown since.
 pub struct Rrt {
-    ready: bool,
-    mount: Mount,
-    max_distance: Length,
-    goal: Goal,
+    setting: Setting,
     tree: Tree,
 }
 
@@ -50,20 +47,7 @@ impl Rrt {
             feed: 0.0,
         };
         Rrt {
-            ready: false,
-            mount: Mount {
-                limits: Limits {
-                    low: zero,
-                    high: zero,
-                },
-                segment: Length { value: 1.0 },
-                table: KeepOuts::new(),
-            },
-            max_distance: Length { value: 1.0 },
-            goal: Goal {
-                centre: zero,
-                radius: 0.0,
-            },
+            setting: Setting::none(),
             tree: Tree::rooted(zero),
         }
     }
@@ -80,17 +64,10 @@ impl Rrt {
     ) -> Answered
         ensures { λ r. ⌜ answeredOf r ≡ setupOf (plannerOf self) limits segment «max_distance» start goal table ⌝ }
     {
-        let mount = Mount {
-            limits,
-            segment,
-            table,
-        };
-        if plan::is_good(mount, max_distance, start, goal) {
+        let setting = Setting::new(limits, segment, max_distance, start, goal, table);
+        if setting.ready {
             let planner = Rrt {
-                ready: true,
-                mount,
-                max_distance,
-                goal,
+                setting,
                 tree: Tree::rooted(start),
             };
             return Answered {
@@ -109,9 +86,10 @@ impl Rrt {
     pub fn solve(self, samples: &[f64], route: &mut [f64]) -> Solved
         ensures { λ r. ⌜ solvedOf r (now (route .exit)) ≡ solveOf (plannerOf self) (now (samples .entry)) (now (route .entry)) ⌝ }
     {
+        let setting = self.setting;
         let tree = self.tree;
         let good = samples::are_good(samples);
-        if plan::is_usable(self.ready, tree.count) {
+        if plan::is_usable(setting.ready, tree.count) {
             if route.len() < Rrt::ROUTE {
                 return Solved {
                     planner: self,
@@ -122,9 +100,9 @@ impl Rrt {
             }
             if good {
                 let ran = rrt_run::run(
-                    self.mount,
-                    self.max_distance,
-                    self.goal,
+                    setting.mount,
+                    setting.reach,
+                    setting.goal,
                     tree,
                     samples,
                     route,
@@ -160,20 +138,13 @@ impl Rrt {
     pub fn add_keep_out(self, k: KeepOut) -> Answered
         ensures { λ r. ⌜ answeredOf r ≡ addOf (plannerOf self) k ⌝ }
     {
-        let mount = self.mount;
-        if plan::is_usable(self.ready, self.tree.count) {
-            let more = plan::with_keep_out(mount.table, k);
-            let table = more.table;
+        let setting = self.setting;
+        if plan::is_usable(setting.ready, self.tree.count) {
+            let more = setting.with_keep_out(k);
+            let longer = more.setting;
             let answer = more.answer;
-            let limits = mount.limits;
-            let segment = mount.segment;
-            let longer = Mount {
-                limits,
-                segment,
-                table,
-            };
             let mut planner = self;
-            planner.mount = longer;
+            planner.setting = longer;
             return Answered { planner, answer };
         }
         Answered {
@@ -187,7 +158,11 @@ impl Rrt {
         ensures { λ r. ⌜ r ≡ sizeOf (plannerOf self) ⌝ }
     {
         let n = self.tree.count;
-        if plan::is_usable(self.ready, n) { n } else { 0 }
+        if plan::is_usable(self.setting.ready, n) {
+            n
+        } else {
+            0
+        }
     }
 
     pub fn node(self, i: usize) -> NodeAt
@@ -195,7 +170,7 @@ impl Rrt {
     {
         let tree = self.tree;
         let n = tree.count;
-        if plan::is_usable(self.ready, n) {
+        if plan::is_usable(self.setting.ready, n) {
             return tree::node_at(&tree.az, &tree.el, &tree.feed, &tree.parent, n, i);
         }
         NodeAt::Nothing
