@@ -37,11 +37,11 @@ module _ (p : Prm) (route : List Float) where
   abbrev answer : Reply
   answer = queryOf (plannerOf p) route
 
-  pub query-unset : p .ready ≡ false → (r : Queried) → r ≡ record { answer = Uninitialised; count = 0 } → queriedOf r route ≡ answer
+  pub query-unset : p .setting .ready ≡ false → (r : Queried) → r ≡ record { answer = Uninitialised; count = 0 } → queriedOf r route ≡ answer
   unfolding queryOf
   query-unset u r e = rw (e, view-unset p u)
 
-  module _ (u : p .ready ≡ true) where
+  module _ (u : p .setting .ready ≡ true) where
     pub query-room : length route < needed → (r : Queried) → r ≡ record { answer = Room; count = 0 } → queriedOf r route ≡ answer
     unfolding queryOf
     query-room h r e = rw (e, view-set p u, lt-ltb (length route) needed h)
@@ -53,13 +53,13 @@ module _ (p : Prm) (route : List Float) where
 
       module _ (z : n ≡ 0 → ⊥) where
         pub query-invalid :
-            validOf (p .mount .limits) (keepOutsOf (p .mount .table)) (p .start) ≡ false → (r : Queried) → r ≡ record { answer = InvalidStart; count = 0 } → queriedOf r route ≡ answer
+            validOf (p .setting .mount .limits) (keepOutsOf (p .setting .mount .table)) (p .start) ≡ false → (r : Queried) → r ≡ record { answer = InvalidStart; count = 0 } → queriedOf r route ≡ answer
         unfolding queryOf
         query-invalid v r e = rw (e, view-set p u, le-ltb (length route) needed h, ← size, ne-eqb n 0 z, v)
 
-        module _ (v : validOf (p .mount .limits) (keepOutsOf (p .mount .table)) (p .start) ≡ true) where
+        module _ (v : validOf (p .setting .mount .limits) (keepOutsOf (p .setting .mount .table)) (p .start) ≡ true) where
           abbrev path : List State
-          path = search.queryOf (p .mount .limits) (p .mount .segment .value) (keepOutsOf (p .mount .table)) (p .«connection_radius» .value) (p .start) (p .goal) (milestonesOf (p .map))
+          path = search.queryOf (p .setting .mount .limits) (p .setting .mount .segment .value) (keepOutsOf (p .setting .mount .table)) (p .setting .reach .value) (p .start) (p .setting .goal) (milestonesOf (p .map))
 
           searched : foundOf path route ≡ answer
           unfolding queryOf

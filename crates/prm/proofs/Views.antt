@@ -3,7 +3,8 @@ use Prim.Native.Nat.{ℕ}
 use mathlib.Core.Bool.{true, false}
 use mathlib.Core.Path.{_≡_}
 use lib.ListN.{length}
-use Rattle.plan.specs.Plan.{unset, set}
+use Rattle.plan.specs.Plan.{planOf, unset, set}
+use Rattle.plan.proofs.Views as views
 use Rattle.roadmap.specs.Map as map
 use Rattle.roadmap.specs.View.{milestonesOf}
 use Rattle.roadmap.specs.declared.MilestoneAt.the-variants.{Nothing}
@@ -11,15 +12,15 @@ use Rattle.prm.specs.declared.Prm.{Prm}
 use Rattle.prm.specs.Planner.{givenBy, plannerOf, sizeOf, milestoneOf, legOf}
 
 module _ (p : Prm) where
-  pub view-set : p .ready ≡ true → plannerOf p ≡ set (givenBy (p .mount) (p .«connection_radius») (p .start) (p .goal)) (milestonesOf (p .map))
+  pub view-set : p .setting .ready ≡ true → plannerOf p ≡ set (givenBy (planOf (p .setting)) (p .start)) (milestonesOf (p .map))
   unfolding plannerOf
-  view-set u = rw u
+  view-set u = views.view-set _ _ _ u
 
-  pub view-unset : p .ready ≡ false → plannerOf p ≡ unset
+  pub view-unset : p .setting .ready ≡ false → plannerOf p ≡ unset
   unfolding plannerOf
-  view-unset u = rw u
+  view-unset u = views.view-unset _ _ _ u
 
-  module _ (u : p .ready ≡ true) where
+  module _ (u : p .setting .ready ≡ true) where
     pub size-set : length (milestonesOf (p .map)) ≡ sizeOf (plannerOf p)
     unfolding sizeOf
     size-set = rw (view-set u)
@@ -32,7 +33,7 @@ module _ (p : Prm) where
     unfolding legOf
     leg-set i j = rw (view-set u)
 
-  module _ (u : p .ready ≡ false) where
+  module _ (u : p .setting .ready ≡ false) where
     pub size-unset : 0 ≡ sizeOf (plannerOf p)
     unfolding sizeOf
     size-unset = rw (view-unset u)

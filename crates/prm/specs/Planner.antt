@@ -11,12 +11,10 @@ use Rattle.state.specs.declared.State.{State}
 use Rattle.fields.specs.declared.Limits.{Limits}
 use Rattle.fields.specs.declared.Length.{Length}
 use Rattle.fields.specs.declared.Goal.{Goal}
-use Rattle.keep_out_table.specs.Table.{keepOutsOf}
 use Rattle.keep_out.specs.declared.KeepOut.{KeepOut}
 use Rattle.keep_out_table.specs.declared.KeepOuts.{KeepOuts}
-use Rattle.mount.specs.declared.Mount.{Mount}
-use Rattle.plan.specs.Plan.{Planner, unset, set}
-use Rattle.plan.specs.Setup.{Told, goodSetup, setupWith}
+use Rattle.plan.specs.Plan.{Plan, planOf, Planner, unset, set, viewOf}
+use Rattle.plan.specs.Setup.{Told, settingOf, setupWith}
 use Rattle.roadmap.specs.Map as map
 use Rattle.roadmap.specs.Map.{Milestone}
 use Rattle.roadmap.specs.View.{milestonesOf}
@@ -34,16 +32,16 @@ pub record Given : Type 0 where
   pub start : State
   pub goal : Goal
 
-abbrev pub givenBy : Mount → Length → State → Goal → Given
-givenBy mount radius start goal =
-    record { limits = mount .limits; segment = mount .segment .value; keepOuts = keepOutsOf (mount .table); radius = radius .value; start = start; goal = goal }
+-- connection_radius is a setting's reach
+abbrev pub givenBy : Plan → State → Given
+givenBy p start = record { limits = p .limits; segment = p .segment; keepOuts = p .keepOuts; radius = p .max; start = start; goal = p .goal }
 
 abbrev pub View : Type 0
 View = Planner Given (List Milestone)
 
 -- a roadmap whose count is past its table reads as the table's end
 unfoldable pub plannerOf : Prm → View
-plannerOf p = cond (p .ready) (set (givenBy (p .mount) (p .«connection_radius») (p .start) (p .goal)) (milestonesOf (p .map))) unset
+plannerOf p = viewOf (p .setting .ready) (givenBy (planOf (p .setting)) (p .start)) (milestonesOf (p .map))
 
 abbrev pub newOf : View
 newOf = unset
@@ -54,8 +52,8 @@ answeredOf r = record { planner = plannerOf (r .planner); answer = r .answer }
 -- setup empties the roadmap
 unfoldable pub setupOf : View → Limits → Length → Length → State → Goal → KeepOuts → Told Given (List Milestone)
 setupOf planner limits segment radius start goal table =
-    let mount : Mount = record { limits = limits; segment = segment; table = table } in
-    setupWith planner (goodSetup mount radius start goal) (givenBy mount radius start goal) []
+    let setting = settingOf limits segment radius start goal table in
+    setupWith planner (setting .ready) (givenBy (planOf setting) start) []
 
 -- the same with another start and goal
 abbrev pub withGoals : Given → State → Goal → Given

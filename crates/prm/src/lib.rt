@@ -5,7 +5,7 @@ use fields::Length;
 use fields::Limits;
 use keep_out::KeepOut;
 use keep_out_table::KeepOuts;
-use mount::Mount;
+use plan::Setting;
 use roadmap::MilestoneAt;
 use roadmap::Roadmap;
 use state::State;
@@ -17,11 +17,8 @@ ghost use Rattle.prm.specs.Query.{queriedOf, queryOf};
 
 // What an accepted setup gave, with start and goal as last replaced, and the roadmap that has been built since.
 pub struct Prm {
-    ready: bool,
-    mount: Mount,
-    connection_radius: Length,
+    setting: Setting,
     start: State,
-    goal: Goal,
     map: Roadmap,
 }
 
@@ -64,21 +61,8 @@ impl Prm {
             feed: 0.0,
         };
         Prm {
-            ready: false,
-            mount: Mount {
-                limits: Limits {
-                    low: zero,
-                    high: zero,
-                },
-                segment: Length { value: 1.0 },
-                table: KeepOuts::new(),
-            },
-            connection_radius: Length { value: 1.0 },
+            setting: Setting::none(),
             start: zero,
-            goal: Goal {
-                centre: zero,
-                radius: 0.0,
-            },
             map: Roadmap::empty(),
         }
     }
@@ -95,18 +79,11 @@ impl Prm {
     ) -> Answered
         ensures { λ r. ⌜ answeredOf r ≡ setupOf (plannerOf self) limits segment «connection_radius» start goal table ⌝ }
     {
-        let mount = Mount {
-            limits,
-            segment,
-            table,
-        };
-        if plan::is_good(mount, connection_radius, start, goal) {
+        let setting = Setting::new(limits, segment, connection_radius, start, goal, table);
+        if setting.ready {
             let planner = Prm {
-                ready: true,
-                mount,
-                connection_radius,
+                setting,
                 start,
-                goal,
                 map: Roadmap::empty(),
             };
             return Answered {
@@ -125,12 +102,13 @@ impl Prm {
     pub fn construct_roadmap(self, samples: &[f64]) -> Constructed
         ensures { λ r. ⌜ constructedOf r ≡ constructOf (plannerOf self) (now (samples .entry)) ⌝ }
     {
+        let setting = self.setting;
         let map = self.map;
         let good = samples::are_good(samples);
-        if self.ready {
+        if setting.ready {
             if good {
-                let radius = self.connection_radius.value;
-                let built = construct::construct(self.mount, radius, map, samples);
+                let radius = setting.reach.value;
+                let built = construct::construct(setting.mount, radius, map, samples);
                 let grown = built.map;
                 let answer = built.answer;
                 let mut planner = self;
@@ -158,12 +136,14 @@ impl Prm {
     pub fn replace_goals(self, start: State, goal: Goal) -> Answered
         ensures { λ r. ⌜ answeredOf r ≡ goalsOf (plannerOf self) start goal ⌝ }
     {
-        if self.ready {
+        let mut setting = self.setting;
+        if setting.ready {
             if start.is_good() {
                 if goal.is_good() {
+                    setting.goal = goal;
                     let mut planner = self;
                     planner.start = start;
-                    planner.goal = goal;
+                    planner.setting = setting;
                     return Answered {
                         planner,
                         answer: Answer::Done,
@@ -185,19 +165,27 @@ impl Prm {
     pub fn query(self, route: &mut [f64]) -> Queried
         ensures { λ r. ⌜ queriedOf r (now (route .exit)) ≡ queryOf (plannerOf self) (now (route .entry)) ⌝ }
     {
+        let setting = self.setting;
         let map = self.map;
         let start = self.start;
         let size = map.size();
-        if self.ready {
+        if setting.ready {
             if route.len() < Prm::ROUTE {
                 return refused(Answer::Room);
             }
             if size == 0 {
                 return refused(Answer::Unsampled);
             }
-            if self.mount.is_valid(start) {
-                let radius = self.connection_radius.value;
-                let count = search::find_route(self.mount, radius, start, self.goal, map, route);
+            if setting.mount.is_valid(start) {
+                let radius = setting.reach.value;
+                let count = search::find_route(
+                    setting.mount,
+                    radius,
+                    start,
+                    setting.goal,
+                    map,
+                    route,
+                );
                 if count == 0 {
                     return refused(Answer::NoSolution);
                 }
@@ -215,23 +203,16 @@ impl Prm {
     pub fn add_keep_out(self, k: KeepOut) -> Answered
         ensures { λ r. ⌜ answeredOf r ≡ addOf (plannerOf self) k ⌝ }
     {
-        let mount = self.mount;
+        let setting = self.setting;
         let map = self.map;
-        if self.ready {
-            let more = plan::with_keep_out(mount.table, k);
-            let table = more.table;
+        if setting.ready {
+            let more = setting.with_keep_out(k);
+            let longer = more.setting;
             let answer = more.answer;
             if answer.number() == 0 {
-                let limits = mount.limits;
-                let segment = mount.segment;
-                let left = prune::pruned(map, k, segment.value);
-                let longer = Mount {
-                    limits,
-                    segment,
-                    table,
-                };
+                let left = prune::pruned(map, k, setting.mount.segment.value);
                 let mut planner = self;
-                planner.mount = longer;
+                planner.setting = longer;
                 planner.map = left;
                 return Answered { planner, answer };
             }
@@ -251,7 +232,7 @@ impl Prm {
         ensures { λ r. ⌜ r ≡ sizeOf (plannerOf self) ⌝ }
     {
         let map = self.map;
-        if self.ready {
+        if self.setting.ready {
             return map.size();
         }
         0
@@ -261,7 +242,7 @@ impl Prm {
         ensures { λ r. ⌜ r ≡ milestoneOf (plannerOf self) i ⌝ }
     {
         let map = self.map;
-        if self.ready {
+        if self.setting.ready {
             return map.milestone(i);
         }
         MilestoneAt::Nothing
@@ -272,7 +253,7 @@ impl Prm {
         ensures { λ r. ⌜ r ≡ legOf (plannerOf self) i j ⌝ }
     {
         let map = self.map;
-        if self.ready {
+        if self.setting.ready {
             return map.has_leg(i, j);
         }
         false

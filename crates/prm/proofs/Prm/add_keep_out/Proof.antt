@@ -16,7 +16,7 @@ pruned-requires c κs = search needs
 returns : tie.Need-returns
 returns c =
     let pruned = c in
-    let test = pruned .before .before .before in
+    let test = pruned .before in
     let more = test .before .before .before in
     add-done _ _ (more .before .if1 .taken) (more .with-keep-out .result) (more .with-keep-out .ensures) _ (test .before .number .ensures) (test .if2 .taken) _ (pruned .pruned .ensures)
 

@@ -1,19 +1,17 @@
 -- `prm::Prm::new` meets its contract.
-use mathlib.Core.Path.{refl}
-use Rattle.prm.specs.Planner.{plannerOf}
+use Rattle.prm.proofs.Views.{view-unset}
 use borrow.Author.Needs.{needs}
 use Rattle.prm.proofs.Prm.new.Statement.{statement}
 use Rattle.prm.proofs.Prm.new.Tie as tie
 
-new-requires : tie.Need-new-requires
-new-requires c κs = search needs
+none-requires : tie.Need-none-requires
+none-requires c κs = search needs
 
 empty-requires : tie.Need-empty-requires
 empty-requires c κs = search needs
 
 returns : tie.Need-returns
-unfolding plannerOf
-returns c = refl
+returns c = view-unset _ (c .before .none .ensures)
 
 pub new-spec : {M : Type 1} → statement M
-new-spec = tie.close (tie.spec new-requires empty-requires returns)
+new-spec = tie.close (tie.spec none-requires empty-requires returns)
