@@ -34,7 +34,7 @@ use Rattle.step.specs.Step.{stepFrom, stepOf}
 use Rattle.route.specs.Path.{climbOf, pathOf, ancestorsOf, upwardsOf}
 use Rattle.route.specs.Written.{flatOf, writtenOf}
 use Rattle.plan.specs.Plan.{Plan, unset, set}
-use Rattle.plan.specs.Setup.{goodSetup, setupWith}
+use Rattle.plan.specs.Setup.{goodSetup, settingOf, setupWith}
 use Rattle.plan.specs.Solve.{Outcome, endedOf, solveWith}
 use Rattle.plan.specs.KeepOut.{longerOf}
 use Rattle.rrt.specs.Planner.{newOf, setupOf}
@@ -247,5 +247,5 @@ examples =
     ∷ []
 
 pub examples-hold : T (allHold examples)
-unfolding examples allHold holds counts pointsAre writes gives plannedBy same sameState sameLists distanceOf widerOf apartOf interpolateOf steerBy steerOf satisfiedOf insideOf withinOf coordinateOf goodState atMostOf goodSpan goodLimits goodLength goodGoal coversOf coveredOf allGood goodTable keepOutsOf emptyTable validOf goodMount quotientOf searchOf leastOf stepsOf partWay partWays testedOf checkedAt checkedOf allValid acceptedOf acceptsOf allCoordinates goodSamples samplesOf grownOf rootOf nearestFrom nearestOf stepFrom stepOf climbOf pathOf flatOf writtenOf goodSetup setupWith setupOf afterOf runOf endedOf solveWith solveOf connectedBy ancestorsOf upwardsOf afterStep extendOf connectEnds byVerdict turnOf roundOf endPath planner.setupOf run.afterOf run.runOf connect.solveOf rewiredBy hangs neighboursFrom neighboursOf costVia isBetter chooseFrom chooseOf costUnder moves rewireOf addedOf grow.afterStep growOf star-run.afterOf star-run.runOf star.setupOf star-solve.solveOf chartedBy askedOf joins spanOf milestoneAt markOf addOf flagsOf roadmap.joinedOf roadmap.runOf roadmap.constructOf search.numbersOf search.connectionsOf search.neighboursOf search.placeAt search.queuedOf search.pushOf search.searchOf search-query.goalOf search-query.soughtOf search-query.treeOf search-query.routeOf search-query.queryOf prm.setupOf prm.goalsOf prm-construct.constructOf prm-query.foundOf prm-query.queryOf stands takesAll goodKeepOut longerOf meetsOf hitAmong hitOf leftOf leavesOf prunedOf prm-adding.addOf prm-adding.addedAll add sub mul div lt le ofInt ofBits toBits
+unfolding examples allHold holds counts pointsAre writes gives plannedBy same sameState sameLists distanceOf widerOf apartOf interpolateOf steerBy steerOf satisfiedOf insideOf withinOf coordinateOf goodState atMostOf goodSpan goodLimits goodLength goodGoal coversOf coveredOf allGood goodTable keepOutsOf emptyTable validOf goodMount quotientOf searchOf leastOf stepsOf partWay partWays testedOf checkedAt checkedOf allValid acceptedOf acceptsOf allCoordinates goodSamples samplesOf grownOf rootOf nearestFrom nearestOf stepFrom stepOf climbOf pathOf flatOf writtenOf goodSetup settingOf setupWith setupOf afterOf runOf endedOf solveWith solveOf connectedBy ancestorsOf upwardsOf afterStep extendOf connectEnds byVerdict turnOf roundOf endPath planner.setupOf run.afterOf run.runOf connect.solveOf rewiredBy hangs neighboursFrom neighboursOf costVia isBetter chooseFrom chooseOf costUnder moves rewireOf addedOf grow.afterStep growOf star-run.afterOf star-run.runOf star.setupOf star-solve.solveOf chartedBy askedOf joins spanOf milestoneAt markOf addOf flagsOf roadmap.joinedOf roadmap.runOf roadmap.constructOf search.numbersOf search.connectionsOf search.neighboursOf search.placeAt search.queuedOf search.pushOf search.searchOf search-query.goalOf search-query.soughtOf search-query.treeOf search-query.routeOf search-query.queryOf prm.setupOf prm.goalsOf prm-construct.constructOf prm-query.foundOf prm-query.queryOf stands takesAll goodKeepOut longerOf meetsOf hitAmong hitOf leftOf leavesOf prunedOf prm-adding.addOf prm-adding.addedAll add sub mul div lt le ofInt ofBits toBits
 examples-hold = tt
