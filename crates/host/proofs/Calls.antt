@@ -10,9 +10,19 @@ use Rattle.keep_out_table.specs.declared.KeepOuts.{KeepOuts}
 use Rattle.plan.specs.Plan.{Planner, unset}
 use Rattle.plan.specs.Setup.{Told}
 use Rattle.plan.specs.Solve.{Outcome}
-use Rattle.host.specs.Table.{Listed}
+use Rattle.listing.specs.Table.{Listed}
+use Rattle.roadmap.specs.Map.{Milestone}
+use Rattle.prm.specs.Planner.{Given}
+use Rattle.parking.specs.Chart.{Charts}
+use Rattle.parking.specs.declared.Charted.{Charted}
 use Rattle.host.specs.Call.{callWith, Reports, Called}
 use Rattle.host.specs.declared.Report.{Report}
+
+-- what was charted, with its answer as a number
+pub charted :
+    (o : Outcome Given (List Milestone)) (r : Charted) (new : List Float) → Charts o r new → (a : ℕ) → a ≡ numberOf (r .answer) →
+    Reports o (record { answer = a; count = r .count; taken = r .taken }) new
+charted o r new w a is-a = record { answer = is-a ∙ ap numberOf (w .answer); count = w .count; taken = w .taken; memory = w .memory }
 
 -- `tell` is the planner's setup, `known` what the test of the kinds gave, and `all` what it should give
 module _ {P A : Type 0} (solve : Planner P A → List Float → List Float → Outcome P A) (tell : Planner P A → KeepOuts → Told P A) (samples old : List Float)

@@ -1,6 +1,2 @@
 -- The crate's laws that belong to no one function.
-pub mod Listing
-pub mod Known
 pub mod Calls
-pub mod Park
-pub mod Chart

@@ -1,6 +1,6 @@
 -- A call of the host. A kind that is none of the three is bad input. Else it is document 01's setup on the numbers in its order, and if that is
 -- done a solve.
-use Prim.Native.Nat.{ℕ}
+use Prim.Native.Nat.{ℕ, _+_}
 use mathlib.Core.Bool.{Bool, cond}
 use mathlib.Core.List.{List}
 use mathlib.Core.Path.{_≡_}
@@ -8,9 +8,10 @@ use lib.Dec.{eqb}
 use lib.Ieee.{Float}
 use Rattle.answer.specs.Number.{numberOf}
 use Rattle.answer.specs.declared.Answer.the-variants.{BadInput}
-use Rattle.fields.specs.declared.Length.{Length}
 use Rattle.keep_out_table.specs.declared.KeepOuts.{KeepOuts}
 use Rattle.tree.specs.Table.{Nodes}
+use Rattle.given.specs.Given.{lengthAt, stateAt, goalAt, limitsIn}
+use Rattle.listing.specs.Table.{Listed, knownOf}
 use Rattle.plan.specs.Plan.{Plan, Planner, unset}
 use Rattle.plan.specs.Setup.{Told}
 use Rattle.plan.specs.Solve.{Outcome, refusedOf}
@@ -23,9 +24,17 @@ use Rattle.star.specs.Grow.{Costed}
 use Rattle.star_run.specs.Run.{StarPlan}
 use Rattle.rrt_star.specs.Planner as star
 use Rattle.rrt_star.specs.Solve as star-solve
-use Rattle.host.specs.Setup.{number, limitsIn, startIn, goalIn}
-use Rattle.host.specs.Table.{Listed, knownOf}
+use Rattle.roadmap.specs.Map.{Milestone}
+use Rattle.prm.specs.Planner as prm
+use Rattle.prm.specs.Planner.{Given}
+use Rattle.parking.specs.Park.{buildOf}
+use Rattle.parking.specs.Chart.{chartOf}
+use Rattle.host.specs.declared.Fields.{Fields}
 use Rattle.host.specs.declared.Report.{Report}
+
+-- document 01, "The mount", setup's fields in order: limits, segment length, max_distance or connection_radius, start, goal
+abbrev pub fieldsIn : List Float → Fields
+fieldsIn l = record { limits = limitsIn l; segment = lengthAt l 6; reach = lengthAt l 7; start = stateAt l 8; goal = goalAt l 11 }
 
 -- a planner that is set up and solves, where the kinds are known; a refusal keeps the route
 unfoldable pub callWith : {P A : Type 0} → (Planner P A → List Float → List Float → Outcome P A) → Bool → Told P A → List Float → List Float → Outcome P A
@@ -34,19 +43,16 @@ callWith solve known told samples route =
     let called = cond (eqb (numberOf (told .answer)) 0) solved (refusedOf (told .planner) (told .answer) route) in
     cond known called (refusedOf unset BadInput route)
 
-abbrev pub lengthAt : List Float → ℕ → Length
-lengthAt l i = record { value = number l i }
-
 -- RRT's setup, and the call
 abbrev pub rrtTold : List Float → rrt.View → KeepOuts → Told Plan Nodes
-rrtTold l planner table = rrt.setupOf planner (limitsIn l) (lengthAt l 6) (lengthAt l 7) (startIn l) (goalIn l) table
+rrtTold l planner table = let f = fieldsIn l in rrt.setupOf planner (f .limits) (f .segment) (f .reach) (f .start) (f .goal) table
 
 unfoldable pub rrtCall : List Float → List ℕ → ℕ → List Float → List Float → KeepOuts → Outcome Plan Nodes
 rrtCall l kinds count samples route table = callWith rrt-solve.solveOf (knownOf kinds count) (rrtTold l rrt.newOf table) samples route
 
 -- RRT-Connect's
 abbrev pub connectTold : List Float → connect.View → KeepOuts → Told Plan Trees
-connectTold l planner table = connect.setupOf planner (limitsIn l) (lengthAt l 6) (lengthAt l 7) (startIn l) (goalIn l) table
+connectTold l planner table = let f = fieldsIn l in connect.setupOf planner (f .limits) (f .segment) (f .reach) (f .start) (f .goal) table
 
 unfoldable pub connectCall : List Float → List ℕ → ℕ → List Float → List Float → KeepOuts → Outcome Plan Trees
 connectCall l kinds count samples route table = callWith connect-solve.solveOf (knownOf kinds count) (connectTold l connect.newOf table) samples route
@@ -54,11 +60,21 @@ connectCall l kinds count samples route table = callWith connect-solve.solveOf (
 -- RRT*'s, with the search radius
 abbrev pub starTold : List Float → Float → star.View → KeepOuts → Told StarPlan Costed
 starTold l radius planner table =
-    star.setupOf planner (limitsIn l) (lengthAt l 6) (lengthAt l 7) (record { value = radius }) (startIn l) (goalIn l) table
+    let f = fieldsIn l in
+    star.setupOf planner (f .limits) (f .segment) (f .reach) (record { value = radius }) (f .start) (f .goal) table
 
 unfoldable pub starCall : List Float → Float → List ℕ → ℕ → List Float → List Float → KeepOuts → Outcome StarPlan Costed
 starCall l radius kinds count samples route table =
     callWith star-solve.solveOf (knownOf kinds count) (starTold l radius star.newOf table) samples route
+
+-- PRM's, which is a construction and its queries
+abbrev pub prmTold : List Float → prm.View → KeepOuts → Told Given (List Milestone)
+prmTold l planner table = let f = fieldsIn l in prm.setupOf planner (f .limits) (f .segment) (f .reach) (f .start) (f .goal) table
+
+-- the kinds of all rows that are named are looked at first
+unfoldable pub prmCall : List Float → List ℕ → List Float → ℕ → ℕ → List Float → ℕ → List Float → KeepOuts → Outcome Given (List Milestone)
+prmCall l kinds numbers count added samples queries route table =
+    callWith (chartOf (buildOf kinds numbers count added) queries) (knownOf kinds (count + added)) (prmTold l prm.newOf table) samples route
 
 -- what is reported of an outcome, and the route at exit
 pub record Reports {P A : Type 0} (o : Outcome P A) (r : Report) (new : List Float) : Type 0 where

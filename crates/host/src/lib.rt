@@ -1,16 +1,14 @@
-// The planners for a host in C or Rust, and for the benchmark: a setup and a solve in one call on plain numbers.
+// The planners for a host in C or Rust, and for the benchmark: a setup and a solve, or a roadmap and its queries, in one call on plain numbers.
+use fields::Goal;
 use fields::Length;
+use fields::Limits;
+use prm::Prm;
 use rrt::Rrt;
 use rrt_connect::RrtConnect;
 use rrt_star::RrtStar;
+use state::State;
 ghost use mathlib.Core.Path.{_≡_};
-ghost use Rattle.host.specs.Call.{Called, rrtCall, connectCall, starCall};
-
-mod charting;
-mod given;
-mod parking;
-
-pub use charting::rindmosaic_prm;
+ghost use Rattle.host.specs.Call.{fieldsIn, Called, rrtCall, connectCall, starCall, prmCall};
 
 // The answer's number in document 01's table, the route's number of states, and the samples taken.
 #[repr(C)]
@@ -22,6 +20,32 @@ pub struct Report {
 
 // The number of bad input: a kind that is none of the three.
 const BAD_INPUT: usize = 2;
+
+// What the fifteen numbers of a setup stand for, in document 01's order. The eighth is the reach of a motion: max_distance, or PRM's connection_radius.
+struct Fields {
+    limits: Limits,
+    segment: Length,
+    reach: Length,
+    start: State,
+    goal: Goal,
+}
+
+fn fields_in(setup: &[f64; 15]) -> Fields
+    ensures { λ r. ⌜ r ≡ fieldsIn (now (setup .entry)) ⌝ }
+{
+    let limits = given::limits(setup);
+    let segment = given::length(setup, 6);
+    let reach = given::length(setup, 7);
+    let start = given::state(setup, 8);
+    let goal = given::goal(setup, 11);
+    Fields {
+        limits,
+        segment,
+        reach,
+        start,
+        goal,
+    }
+}
 
 fn refused(answer: usize) -> Report
     ensures { λ r. ⌜ r ≡ record { answer = answer; count = 0; taken = 0 } ⌝ }
@@ -45,14 +69,10 @@ pub extern "C" fn rindmosaic_rrt<'a>(
 ) -> Report
     ensures { λ r. ⌜ Called (rrtCall (now (setup .entry)) (now (kinds .entry)) «keep_outs» (now (samples .entry)) (now (route .entry))) (now (kinds .entry)) (now (numbers .entry)) «keep_outs» r (now (route .exit)) ⌝ }
 {
-    let limits = given::limits_in(setup);
-    let start = given::start_in(setup);
-    let goal = given::goal_in(setup);
-    let table = given::table_of(kinds, numbers, keep_outs);
-    let segment = Length { value: setup[6] };
-    let max_distance = Length { value: setup[7] };
-    if given::are_known(kinds, keep_outs) {
-        let made = Rrt::new().setup(limits, segment, max_distance, start, goal, table);
+    let f = fields_in(setup);
+    let table = listing::table_of(kinds, numbers, keep_outs);
+    if listing::are_known(kinds, keep_outs) {
+        let made = Rrt::new().setup(f.limits, f.segment, f.reach, f.start, f.goal, table);
         let told = made.answer;
         let refusal = told.number();
         if refusal == 0 {
@@ -81,14 +101,10 @@ pub extern "C" fn rindmosaic_connect<'a>(
 ) -> Report
     ensures { λ r. ⌜ Called (connectCall (now (setup .entry)) (now (kinds .entry)) «keep_outs» (now (samples .entry)) (now (route .entry))) (now (kinds .entry)) (now (numbers .entry)) «keep_outs» r (now (route .exit)) ⌝ }
 {
-    let limits = given::limits_in(setup);
-    let start = given::start_in(setup);
-    let goal = given::goal_in(setup);
-    let table = given::table_of(kinds, numbers, keep_outs);
-    let segment = Length { value: setup[6] };
-    let max_distance = Length { value: setup[7] };
-    if given::are_known(kinds, keep_outs) {
-        let made = RrtConnect::new().setup(limits, segment, max_distance, start, goal, table);
+    let f = fields_in(setup);
+    let table = listing::table_of(kinds, numbers, keep_outs);
+    if listing::are_known(kinds, keep_outs) {
+        let made = RrtConnect::new().setup(f.limits, f.segment, f.reach, f.start, f.goal, table);
         let told = made.answer;
         let refusal = told.number();
         if refusal == 0 {
@@ -118,17 +134,21 @@ pub extern "C" fn rindmosaic_star<'a>(
 ) -> Report
     ensures { λ r. ⌜ Called (starCall (now (setup .entry)) «search_radius» (now (kinds .entry)) «keep_outs» (now (samples .entry)) (now (route .entry))) (now (kinds .entry)) (now (numbers .entry)) «keep_outs» r (now (route .exit)) ⌝ }
 {
-    let limits = given::limits_in(setup);
-    let start = given::start_in(setup);
-    let goal = given::goal_in(setup);
-    let table = given::table_of(kinds, numbers, keep_outs);
-    let segment = Length { value: setup[6] };
-    let max_distance = Length { value: setup[7] };
+    let f = fields_in(setup);
+    let table = listing::table_of(kinds, numbers, keep_outs);
     let radius = Length {
         value: search_radius,
     };
-    if given::are_known(kinds, keep_outs) {
-        let made = RrtStar::new().setup(limits, segment, max_distance, radius, start, goal, table);
+    if listing::are_known(kinds, keep_outs) {
+        let made = RrtStar::new().setup(
+            f.limits,
+            f.segment,
+            f.reach,
+            radius,
+            f.start,
+            f.goal,
+            table,
+        );
         let told = made.answer;
         let refusal = told.number();
         if refusal == 0 {
@@ -138,6 +158,51 @@ pub extern "C" fn rindmosaic_star<'a>(
                 answer: answer.number(),
                 count: solved.count,
                 taken: solved.taken,
+            };
+        }
+        return refused(refusal);
+    }
+    refused(BAD_INPUT)
+}
+
+// PRM: a setup, a construction, keep-outs that are added and queries. With none added and no query the call builds and reports; with many it adds to one
+// roadmap, or asks the same of it again, so that each can be timed apart. The eighth of the fifteen numbers is connection_radius. The setup has the first
+// `keep_outs` rows of the columns, and the next `added` rows are added to what was built, in order. The queries are at most the 255 that a byte holds.
+#[no_mangle]
+pub extern "C" fn rindmosaic_prm<'a>(
+    setup: &'a [f64; 15],
+    kinds: &'a [u8; 32],
+    numbers: &'a [f64; 192],
+    keep_outs: usize,
+    added: usize,
+    samples: &'a [f64],
+    queries: u8,
+    route: &mut [f64],
+) -> Report
+    ensures { λ r. ⌜ Called (prmCall (now (setup .entry)) (now (kinds .entry)) (now (numbers .entry)) «keep_outs» added (now (samples .entry)) queries (now (route .entry))) (now (kinds .entry)) (now (numbers .entry)) «keep_outs» r (now (route .exit)) ⌝ }
+{
+    let f = fields_in(setup);
+    let table = listing::table_of(kinds, numbers, keep_outs);
+    if listing::are_known_with(kinds, keep_outs, added) {
+        let made = Prm::new().setup(f.limits, f.segment, f.reach, f.start, f.goal, table);
+        let told = made.answer;
+        let refusal = told.number();
+        if refusal == 0 {
+            let charted = parking::chart(
+                made.planner,
+                samples,
+                kinds,
+                numbers,
+                keep_outs,
+                added,
+                queries,
+                route,
+            );
+            let answer = charted.answer;
+            return Report {
+                answer: answer.number(),
+                count: charted.count,
+                taken: charted.taken,
             };
         }
         return refused(refusal);

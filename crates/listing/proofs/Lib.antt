@@ -1,0 +1,3 @@
+-- The crate's laws that belong to no one function.
+pub mod Listing
+pub mod Known

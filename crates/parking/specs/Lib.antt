@@ -1,0 +1,2 @@
+pub mod Park
+pub mod Chart
