@@ -94,11 +94,7 @@ impl Columns {
         ensures { λ r. ⌜ Spread table r ⌝ }
     {
         let count = table.count;
-        let n = if count < KeepOuts::MOST {
-            count
-        } else {
-            KeepOuts::MOST
-        };
+        let n = KeepOuts::rows_of(count);
         let mut kinds: [u8; 32] = [2; 32];
         let mut numbers: [f64; 192] = [0.0; 192];
         let mut j: usize = 0;

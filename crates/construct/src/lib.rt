@@ -35,11 +35,7 @@ fn is_valid<'a>(
 ) -> bool
     ensures { λ r. ⌜ r ≡ validOf limits (columnsOf (now (kinds .entry)) (now (numbers .entry)) «keep_outs») s ⌝ }
 {
-    let rows = if keep_outs < KeepOuts::MOST {
-        keep_outs
-    } else {
-        KeepOuts::MOST
-    };
+    let rows = KeepOuts::rows_of(keep_outs);
     if s.within(limits.low, limits.high) {
         let mut j: usize = 0;
         'keep_outs: while j < rows {

@@ -2,6 +2,7 @@
 use keep_out::KeepOut;
 use state::State;
 ghost use mathlib.Core.Path.{_≡_};
+ghost use Prim.Native.Nat.{min};
 ghost use Rattle.keep_out.specs.Covers.{coveredOf};
 ghost use Rattle.keep_out_table.specs.Table.{keepOutsOf, emptyTable, withOf};
 ghost use Rattle.keep_out_table.specs.Good.{goodTable};
@@ -25,6 +26,16 @@ pub struct Longer {
 
 impl KeepOuts {
     pub const MOST: usize = 32;
+
+    // How many of so many rows a table has; past its end there is none.
+    pub fn rows_of(count: usize) -> usize
+        ensures { λ r. ⌜ r ≡ min count 32 ⌝ }
+    {
+        if count < KeepOuts::MOST {
+            return count;
+        }
+        KeepOuts::MOST
+    }
 
     pub fn new() -> KeepOuts
         ensures { λ r. ⌜ r ≡ emptyTable ⌝ }
@@ -77,11 +88,7 @@ impl KeepOuts {
         ensures { λ r. ⌜ r ≡ coveredOf (keepOutsOf self) s ⌝ }
     {
         let count = self.count;
-        let n = if count < KeepOuts::MOST {
-            count
-        } else {
-            KeepOuts::MOST
-        };
+        let n = KeepOuts::rows_of(count);
         let mut i: usize = 0;
         'slots: while i < n {
             let slot = self.slots[i];

@@ -2,28 +2,17 @@
 use keep_out_table::KeepOuts;
 use keep_out_table::Slot;
 ghost use mathlib.Core.Path.{_≡_};
-ghost use Prim.Native.Nat.{_+_, min};
+ghost use Prim.Native.Nat.{_+_};
 ghost use Rattle.listing.specs.Table.{Listed, knownOf};
 
 // The last of the kinds: 0 is a box, 1 a disc, 2 a floor.
 const LAST_KIND: u8 = 2;
 
-// How many of the rows count.
-fn rows_of(count: usize) -> usize
-    ensures { λ r. ⌜ r ≡ min count 32 ⌝ }
-{
-    if count < KeepOuts::MOST {
-        count
-    } else {
-        KeepOuts::MOST
-    }
-}
-
 // Whether each of the first count kinds is one of the three.
 pub fn are_known(kinds: &[u8; 32], count: usize) -> bool
     ensures { λ r. ⌜ r ≡ knownOf (now (kinds .entry)) count ⌝ }
 {
-    let rows = rows_of(count);
+    let rows = KeepOuts::rows_of(count);
     let mut j: usize = 0;
     'rows: while j < rows {
         if kinds[j] <= LAST_KIND {
@@ -39,7 +28,7 @@ pub fn are_known(kinds: &[u8; 32], count: usize) -> bool
 pub fn are_known_with(kinds: &[u8; 32], count: usize, added: usize) -> bool
     ensures { λ r. ⌜ r ≡ knownOf (now (kinds .entry)) (count + added) ⌝ }
 {
-    let rows = rows_of(count) + rows_of(added);
+    let rows = KeepOuts::rows_of(count) + KeepOuts::rows_of(added);
     are_known(kinds, rows)
 }
 
@@ -47,7 +36,7 @@ pub fn are_known_with(kinds: &[u8; 32], count: usize, added: usize) -> bool
 pub fn table_of<'a>(kinds: &'a [u8; 32], numbers: &'a [f64; 192], count: usize) -> KeepOuts
     ensures { λ r. ⌜ Listed (now (kinds .entry)) (now (numbers .entry)) count r ⌝ }
 {
-    let rows = rows_of(count);
+    let rows = KeepOuts::rows_of(count);
     let mut table = KeepOuts::new();
     let mut j: usize = 0;
     'rows: while j < rows {

@@ -79,11 +79,7 @@ pub fn accepts<'a>(
     let Steps::Count(n) = num_steps(segment, from, to) else {
         return false;
     };
-    let rows = if count < KeepOuts::MOST {
-        count
-    } else {
-        KeepOuts::MOST
-    };
+    let rows = KeepOuts::rows_of(count);
     let last = if n < 1 { 1 } else { n };
     let mut i: usize = 1;
     'points: while i <= last {

@@ -51,16 +51,19 @@ enum-told c = search needs
 returns : tie.Need-returns Inv-keep-outs μ-keep-outs Inv-points μ-points
 returns c = accepts-many _ _ _ _ _ (sym (c .enum-told .given .1) ∙ c .before .before .num-steps .ensures)
 
+rows-of-requires : tie.Need-rows-of-requires Inv-keep-outs μ-keep-outs Inv-points μ-points
+rows-of-requires c κs = search needs
+
 points-holds : tie.Need-points-holds Inv-keep-outs μ-keep-outs Inv-points μ-points
 points-holds c =
     let told = c .before .before in
     let a = told .before .before .before .before .args in
     let n = told .before .n .given .0 .0 in
-    let last = c .if2 .last in
+    let last = c .if1 .last in
     let few : n ≤ 4096 = steps-few _ _ _ n (count-is told) in
     let ks = columnsOf (now (a .kinds)) (now (a .numbers)) (a .count) in
-    let e : c .before .if1 .rows ≡ min (a .count) 32 = ⊎-elim (λ w. omega arith) (λ w. omega arith) (c .before .if1 .came) in
-    let l : last ≡ max n 1 = ⊎-elim (λ w. omega arith) (λ w. omega arith) (c .if2 .came) in
+    let e : c .before .rows-of .result ≡ min (a .count) 32 = c .before .rows-of .ensures in
+    let l : last ≡ max n 1 = ⊎-elim (λ w. omega arith) (λ w. omega arith) (c .if1 .came) in
     let z : last + 1 - 1 ≡ last = omega arith in (
       omega arith,
       (omega arith, few),
@@ -93,10 +96,10 @@ returns-2 c =
     let inside = turn .before .before in
     let point = inside .before .before in
     let way = point .before .before .points in
-    let hit = h .1 ∙ covered-here _ _ _ _ _ (turn .keep-outs-test .taken) (covered _ _ _ _ _ (c .before .covers .ensures) (c .before .before .keep-out-at .ensures) (c .if4 .taken)) in
+    let hit = h .1 ∙ covered-here _ _ _ _ _ (turn .keep-outs-test .taken) (covered _ _ _ _ _ (c .before .covers .ensures) (c .before .before .keep-out-at .ensures) (c .if3 .taken)) in
     sym
     (way .inv .3
-    ∙ point-hit _ _ _ _ _ _ _ _ (point .before .points-test .taken) (point .point .ensures) (sym (inside .before .within .ensures) ∙ inside .if3 .taken) hit)
+    ∙ point-hit _ _ _ _ _ _ _ _ (point .before .points-test .taken) (point .point .ensures) (sym (inside .before .within .ensures) ∙ inside .if2 .taken) hit)
 
 add-j : tie.Need-add-j Inv-keep-outs μ-keep-outs Inv-points μ-points
 add-j c = omega arith
@@ -108,13 +111,13 @@ keep-outs-again : tie.Need-keep-outs-again Inv-keep-outs μ-keep-outs Inv-points
 keep-outs-again c =
     let turn = c .before .before .before in
     let h = turn .before .keep-outs .inv in
-    (omega arith, h .1 ∙ covered-later _ _ _ _ _ (turn .keep-outs-test .taken) (covered _ _ _ _ _ (c .before .covers .ensures) (c .before .before .keep-out-at .ensures) (c .if4 .left)))
+    (omega arith, h .1 ∙ covered-later _ _ _ _ _ (turn .keep-outs-test .taken) (covered _ _ _ _ _ (c .before .covers .ensures) (c .before .before .keep-out-at .ensures) (c .if3 .left)))
 
 returns-3 : tie.Need-returns-3 Inv-keep-outs μ-keep-outs Inv-points μ-points
 returns-3 c =
     let point = c .before .before in
     let way = point .before .before .points in
-    sym (way .inv .3 ∙ point-out _ _ _ _ _ _ _ _ (point .before .points-test .taken) (point .point .ensures) (sym (c .before .within .ensures) ∙ c .if3 .left))
+    sym (way .inv .3 ∙ point-out _ _ _ _ _ _ _ _ (point .before .points-test .taken) (point .point .ensures) (sym (c .before .within .ensures) ∙ c .if2 .left))
 
 add-i : tie.Need-add-i Inv-keep-outs μ-keep-outs Inv-points μ-points
 add-i c = omega arith
@@ -132,7 +135,7 @@ points-again c =
       way .inv .1,
       way .inv .2,
       way .inv .3
-          ∙ point-free _ _ _ _ _ _ _ _ (point .before .points-test .taken) (point .point .ensures) (sym (inside .before .within .ensures) ∙ inside .if3 .taken) free,
+          ∙ point-free _ _ _ _ _ _ _ _ (point .before .points-test .taken) (point .point .ensures) (sym (inside .before .within .ensures) ∙ inside .if2 .taken) free,
     )
 
 returns-4 : tie.Need-returns-4 Inv-keep-outs μ-keep-outs Inv-points μ-points
@@ -152,6 +155,7 @@ accepts-spec =
     enum-known-n
     enum-told
     returns
+    rows-of-requires
     points-holds
     point-requires
     within-requires

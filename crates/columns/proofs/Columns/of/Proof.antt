@@ -1,6 +1,5 @@
 -- `columns::Columns::of` meets its contract.
 use Prim.Native.Nat.{ℕ, _≤_, _<_, _-_, _*_, min}
-use mathlib.Core.Logic.{⊎-elim}
 use mathlib.Core.Path.{_≡_, refl, _∙_}
 use native.Mathlib.Omega.{arith}
 use borrow.Author.Needs.{needs}
@@ -29,9 +28,12 @@ abbrev μ-rows : tie.MeasureT-rows
 sized : (c : tie.Start Inv-rows μ-rows) → length (c .args .t1 .slots) ≡ 32
 sized c = search (mapped, needs)
 
+rows-of-requires : tie.Need-rows-of-requires Inv-rows μ-rows
+rows-of-requires c κs = search needs
+
 rows-holds : tie.Need-rows-holds Inv-rows μ-rows
 rows-holds c =
-    let e : c .if1 .n ≡ min (c .before .args .t1 .count) 32 = ⊎-elim (λ w. omega arith) (λ w. omega arith) (c .if1 .came) in
+    let e : c .rows-of .result ≡ min (c .before .args .t1 .count) 32 = c .rows-of .ensures in
     (omega arith, e, (refl, refl), λ i h. absurd (nothing i h))
   where
     nothing : (i : ℕ) → i < 0 → ⊥
@@ -134,6 +136,7 @@ of-spec =
     (tie.spec
     Inv-rows
     μ-rows
+    rows-of-requires
     rows-holds
     mul-slot
     element-copy-out-slot

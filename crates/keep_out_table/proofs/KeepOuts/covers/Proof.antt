@@ -2,7 +2,6 @@
 use Prim.Native.Nat.{_≤_, _-_, _+_, min}
 use mathlib.Core.Bool.{Bool}
 use mathlib.Core.List.{List, _∷_, map}
-use mathlib.Core.Logic.{⊎-elim}
 use mathlib.Core.Path.{_≡_, refl, sym, _∙_, ap}
 use native.Mathlib.Omega.{arith}
 use borrow.Author.Needs.{needs}
@@ -30,17 +29,20 @@ sized c = search (mapped, needs)
 more :
     (c : tie.In-slots Inv-slots μ-slots) (d : Slot) →
     let a = c .before .before .before .args in
-    let n = c .before .before .if1 .n in
+    let n = c .before .before .rows-of .result in
     let i = c .before .slots .i in
     coveredOf (map heldOf (take n (a .t1 .slots))) (a .s) ≡ coveredOf (map heldOf (getD (a .t1 .slots) i d ∷ drop (i + 1) (take n (a .t1 .slots)))) (a .s)
 more c d =
     let start = c .before .before .before in
-    left-more (λ (l : List Slot). coveredOf (map heldOf l) (start .args .s)) (c .before .before .if1 .n) (start .args .t1 .slots) (c .before .slots .i) d
+    left-more (λ (l : List Slot). coveredOf (map heldOf l) (start .args .s)) (c .before .before .rows-of .result) (start .args .t1 .slots) (c .before .slots .i) d
     (c .slots-test .taken) (omega (arith, sized start)) (c .before .slots .inv .3)
+
+rows-of-requires : tie.Need-rows-of-requires Inv-slots μ-slots
+rows-of-requires c κs = search needs
 
 slots-holds : tie.Need-slots-holds Inv-slots μ-slots
 slots-holds c = let start = c .before in
-    let e : c .if1 .n ≡ min (start .args .t1 .count) 32 = ⊎-elim (λ w. omega arith) (λ w. omega arith) (c .if1 .came) in
+    let e : c .rows-of .result ≡ min (start .args .t1 .count) 32 = c .rows-of .ensures in
     (omega arith, omega arith, take-most _ 32 _ _ (sized start) e, refl)
 
 mul-slot : tie.Need-mul-slot Inv-slots μ-slots
@@ -59,7 +61,7 @@ returns c =
     let start = turn .before .before .before in
     sym
     (ap (λ (l : List Slot). coveredOf (map heldOf l) (start .args .s)) (turn .before .slots .inv .2)
-    ∙ more turn _ ∙ or-left _ _ (sym (c .before .covers .ensures) ∙ c .if2 .taken))
+    ∙ more turn _ ∙ or-left _ _ (sym (c .before .covers .ensures) ∙ c .if1 .taken))
 
 add-i : tie.Need-add-i Inv-slots μ-slots
 add-i c = omega arith
@@ -72,7 +74,7 @@ unfolding coveredOf
 slots-again c =
     let turn = c .before .before .before in
     let h = turn .before .slots .inv in
-    (omega arith, h .1, h .2, more turn _ ∙ or-right _ _ (sym (c .before .covers .ensures) ∙ c .if2 .left))
+    (omega arith, h .1, h .2, more turn _ ∙ or-right _ _ (sym (c .before .covers .ensures) ∙ c .if1 .left))
 
 returns-2 : tie.Need-returns-2 Inv-slots μ-slots
 unfolding coveredOf keepOutsOf
@@ -88,6 +90,7 @@ covers-spec =
     (tie.spec
     Inv-slots
     μ-slots
+    rows-of-requires
     slots-holds
     mul-slot
     element-copy-out-slot
