@@ -79,12 +79,7 @@ fn keep_legs<'a>(
 pub fn pruned(map: Roadmap, k: KeepOut, segment: f64) -> Roadmap
     ensures { λ r. ⌜ milestonesOf r ≡ prunedOf segment k (milestonesOf map) ⌝ }
 {
-    let held = map.count;
-    let rows = if held < Roadmap::MOST {
-        held
-    } else {
-        Roadmap::MOST
-    };
+    let rows = map.size();
     let mut az: [f64; 256] = [0.0; 256];
     let mut el: [f64; 256] = [0.0; 256];
     let mut feed: [f64; 256] = [0.0; 256];

@@ -5,16 +5,17 @@ use mathlib.Core.Path.{_≡_, refl, sym, _∙_, ap}
 use native.Mathlib.Omega.{arith}
 use borrow.Author.Needs.{needs}
 use Rattle.roadmap.specs.View.{viewOf, milestonesOf}
+use Rattle.roadmap.proofs.View.{view-long}
 use Rattle.prune.proofs.Pruning.{Pruning, prune-starts, prune-gone, prune-kept, prune-ends}
 use Rattle.prune.proofs.pruned.Statement.{statement}
 use Rattle.prune.proofs.pruned.Tie as tie
 
 abbrev Inv-milestones : tie.InvT-milestones
-Inv-milestones k segment map held rows az₀ el₀ feed₀ legs₀ old₀ at₀ count₀ i₀ az el feed legs old at count i =
+Inv-milestones k segment map rows az₀ el₀ feed₀ legs₀ old₀ at₀ count₀ i₀ az el feed legs old at count i =
     (rows ≡ min (map .count) 256) × Pruning map k segment az el feed legs old at count i
 
 abbrev μ-milestones : tie.MeasureT-milestones
-μ-milestones k segment map held rows az₀ el₀ feed₀ legs₀ old₀ at₀ count₀ i₀ az el feed legs old at count i = rows - i
+μ-milestones k segment map rows az₀ el₀ feed₀ legs₀ old₀ at₀ count₀ i₀ az el feed legs old at count i = rows - i
 
 -- what is known in a turn
 module _ (c : tie.In-milestones Inv-milestones μ-milestones) where
@@ -30,28 +31,32 @@ module _ (c : tie.In-milestones Inv-milestones μ-milestones) where
   room : c .before .milestones .count < 256
   room = omega (arith, inside, c .before .milestones .inv .1 .few)
 
+size-requires : tie.Need-size-requires Inv-milestones μ-milestones
+size-requires c κs = search needs
+
 milestones-holds : tie.Need-milestones-holds Inv-milestones μ-milestones
+unfolding milestonesOf
 milestones-holds c =
-    let most : c .if1 .rows ≡ min (c .before .args .t1 .count) 256 = ⊎-elim (λ w. omega arith) (λ w. omega arith) (c .if1 .came) in
+    let most : c .size .result ≡ min (c .before .args .t1 .count) 256 = c .size .ensures ∙ view-long _ _ _ _ _ in
     (most, prune-starts _ _ _ _ _ _ _ refl refl refl refl)
 
-mul-t19 : tie.Need-mul-t19 Inv-milestones μ-milestones
-mul-t19 c = omega (arith, inside c)
+mul-t17 : tie.Need-mul-t17 Inv-milestones μ-milestones
+mul-t17 c = omega (arith, inside c)
 
-element-copy-out-t22 : tie.Need-element-copy-out-t22 Inv-milestones μ-milestones
-element-copy-out-t22 c = inside c
+element-copy-out-t20 : tie.Need-element-copy-out-t20 Inv-milestones μ-milestones
+element-copy-out-t20 c = inside c
 
-mul-t23 : tie.Need-mul-t23 Inv-milestones μ-milestones
-mul-t23 c = omega (arith, inside (c .before))
+mul-t21 : tie.Need-mul-t21 Inv-milestones μ-milestones
+mul-t21 c = omega (arith, inside (c .before))
 
-element-copy-out-t26 : tie.Need-element-copy-out-t26 Inv-milestones μ-milestones
-element-copy-out-t26 c = inside (c .before)
+element-copy-out-t24 : tie.Need-element-copy-out-t24 Inv-milestones μ-milestones
+element-copy-out-t24 c = inside (c .before)
 
-mul-t27 : tie.Need-mul-t27 Inv-milestones μ-milestones
-mul-t27 c = omega (arith, inside (c .before .before))
+mul-t25 : tie.Need-mul-t25 Inv-milestones μ-milestones
+mul-t25 c = omega (arith, inside (c .before .before))
 
-element-copy-out-t30 : tie.Need-element-copy-out-t30 Inv-milestones μ-milestones
-element-copy-out-t30 c = inside (c .before .before)
+element-copy-out-t28 : tie.Need-element-copy-out-t28 Inv-milestones μ-milestones
+element-copy-out-t28 c = inside (c .before .before)
 
 covers-requires : tie.Need-covers-requires Inv-milestones μ-milestones
 covers-requires c κs = search needs
@@ -113,7 +118,7 @@ milestones-again c =
       h .0,
       ⊎-elim
           (λ w. prune-gone (h .1) (more turn) (sym tested ∙ w .0 .taken) (w .1) (w .2) (w .3) (w .4) (w .5) (w .6) (w .7))
-          (λ w. prune-kept (h .1) (more turn) (sym tested ∙ w .0 .left) (rw (w .13) (w .9 .ensures)) (w .10) (w .11) (w .12) (w .14) (w .15) (w .16)) (c .if2 .came),
+          (λ w. prune-kept (h .1) (more turn) (sym tested ∙ w .0 .left) (rw (w .13) (w .9 .ensures)) (w .10) (w .11) (w .12) (w .14) (w .15) (w .16)) (c .if1 .came),
     )
 
 returns : tie.Need-returns Inv-milestones μ-milestones
@@ -129,13 +134,14 @@ pruned-spec =
     (tie.spec
     Inv-milestones
     μ-milestones
+    size-requires
     milestones-holds
-    mul-t19
-    element-copy-out-t22
-    mul-t23
-    element-copy-out-t26
-    mul-t27
-    element-copy-out-t30
+    mul-t17
+    element-copy-out-t20
+    mul-t21
+    element-copy-out-t24
+    mul-t25
+    element-copy-out-t28
     covers-requires
     keep-legs-requires
     mul-az
