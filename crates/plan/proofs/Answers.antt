@@ -11,7 +11,7 @@ use Rattle.answer.specs.declared.Answer.the-variants.{Done, Uninitialised, BadI
 use Rattle.state.specs.declared.State.{State}
 use Rattle.samples.specs.Samples.{goodSamples, samplesOf}
 use Rattle.route.specs.Written.{writtenOf}
-use Rattle.plan.specs.Plan.{Planner, unset, set, viewOf}
+use Rattle.plan.specs.Plan.{Planner, viewOf}
 use Rattle.plan.specs.Setup.{setupWith}
 use Rattle.plan.specs.Solve.{Ended, Outcome, refusedOf, endedOf, solveWith}
 use Rattle.plan.proofs.Views.{view-set, view-unset}

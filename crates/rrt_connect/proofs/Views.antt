@@ -1,16 +1,17 @@
--- A planner's view: what the test of a usable planner shows, and the trees by index.
+-- What the test of a usable planner shows, and the trees by index.
 use Prim.Native.Nat.{ℕ, _≤_, _<_}
 use mathlib.Core.Bool.{Bool, true, false}
 use mathlib.Core.Path.{_≡_, sym, _∙_}
 use borrow.Author.Tests.{le-leb, leb-true}
 use lib.Dec.{leb}
 use Rattle.laws.specs.Order.{whether, clash}
-use Rattle.tree.specs.Table.{nodesOf, nodeAtOf}
+use Rattle.state.specs.declared.State.{State}
+use Rattle.tree.specs.Table.{nodesOf, nodeAtOf, rootedOf, noneOf}
 use Rattle.tree.specs.declared.NodeAt.the-variants.{Nothing}
 use Rattle.tree.proofs.Append.{nodes-length}
-use Rattle.plan.specs.Plan.{planFrom, unset, set}
 use Rattle.plan.specs.Setup as setup
 use Rattle.plan.proofs.Usable as usable
+use Rattle.plan.proofs.Views.{view-set, view-unset}
 use Rattle.rrt_connect.specs.declared.RrtConnect.{RrtConnect}
 use Rattle.rrt_connect.specs.Planner.{usableOf, treesOf, plannerOf, startSizeOf, goalSizeOf, startNodeOf, goalNodeOf}
 
@@ -22,6 +23,11 @@ module _ (ready : Bool) (start goal : ℕ) where
   pub usable-no : setup.usableOf ready start ≡ false → false ≡ usableOf ready start goal
   unfolding usableOf
   usable-no e = rw e
+
+  -- a start tree that is its root alone, and no goal tree yet
+  pub usable-root : (s : State) → ready ≡ true → start ≡ rootedOf s .count → goal ≡ noneOf .count → usableOf ready start goal ≡ true
+  unfolding noneOf
+  usable-root s e r n = sym (usable-yes (usable.usable-root ready start s e r)) ∙ rw n
 
   -- counts that trees can have are usable
   pub usable-counts : ready ≡ true → 0 < start → start ≤ 512 → goal ≤ 512 → usableOf ready start goal ≡ true
@@ -43,49 +49,37 @@ module _ (ready : Bool) (start goal : ℕ) where
     pub usable-goal : goal ≤ 512
     usable-goal = leb-true goal 512 (usable-yes usable-start ∙ u)
 
--- the view of a planner that is usable, and of one that is not
-module _ (p : RrtConnect) where
-  abbrev isUsable : Bool
-  isUsable = usableOf (p .ready) (p .«start_tree» .count) (p .«goal_tree» .count)
+-- the trees by index
+module _ (p : RrtConnect) (u : usableOf (p .setting .ready) (p .«start_tree» .count) (p .«goal_tree» .count) ≡ true) where
+  pub start-size-set : p .«start_tree» .count ≡ startSizeOf (plannerOf p)
+  unfolding startSizeOf plannerOf treesOf
+  start-size-set = rw (view-set _ _ _ u) (sym (nodes-length (p .«start_tree») (usable-most _ _ _ u)))
 
-  pub view-set : isUsable ≡ true → plannerOf p ≡ set (planFrom (p .mount) (p .«max_distance») (p .goal)) (treesOf p)
-  unfolding plannerOf
-  view-set e = rw e
+  pub goal-size-set : p .«goal_tree» .count ≡ goalSizeOf (plannerOf p)
+  unfolding goalSizeOf plannerOf treesOf
+  goal-size-set = rw (view-set _ _ _ u) (sym (nodes-length (p .«goal_tree») (usable-goal _ _ _ u)))
 
-  pub view-unset : isUsable ≡ false → plannerOf p ≡ unset
-  unfolding plannerOf
-  view-unset e = rw e
+  pub start-node-set : (i : ℕ) → nodeAtOf (nodesOf (p .«start_tree»)) i ≡ startNodeOf (plannerOf p) i
+  unfolding startNodeOf plannerOf treesOf
+  start-node-set i = rw (view-set _ _ _ u)
 
-  -- the trees by index
-  pub start-size-set : isUsable ≡ true → p .«start_tree» .count ≡ startSizeOf (plannerOf p)
-  unfolding startSizeOf treesOf
-  start-size-set u = rw (view-set u) (sym (nodes-length (p .«start_tree») (usable-most _ _ _ u)))
+  pub goal-node-set : (i : ℕ) → nodeAtOf (nodesOf (p .«goal_tree»)) i ≡ goalNodeOf (plannerOf p) i
+  unfolding goalNodeOf plannerOf treesOf
+  goal-node-set i = rw (view-set _ _ _ u)
 
-  pub start-size-unset : isUsable ≡ false → 0 ≡ startSizeOf (plannerOf p)
-  unfolding startSizeOf
-  start-size-unset u = rw (view-unset u)
+module _ (p : RrtConnect) (u : usableOf (p .setting .ready) (p .«start_tree» .count) (p .«goal_tree» .count) ≡ false) where
+  pub start-size-unset : 0 ≡ startSizeOf (plannerOf p)
+  unfolding startSizeOf plannerOf
+  start-size-unset = rw (view-unset _ _ _ u)
 
-  pub goal-size-set : isUsable ≡ true → p .«goal_tree» .count ≡ goalSizeOf (plannerOf p)
-  unfolding goalSizeOf treesOf
-  goal-size-set u = rw (view-set u) (sym (nodes-length (p .«goal_tree») (usable-goal _ _ _ u)))
+  pub goal-size-unset : 0 ≡ goalSizeOf (plannerOf p)
+  unfolding goalSizeOf plannerOf
+  goal-size-unset = rw (view-unset _ _ _ u)
 
-  pub goal-size-unset : isUsable ≡ false → 0 ≡ goalSizeOf (plannerOf p)
-  unfolding goalSizeOf
-  goal-size-unset u = rw (view-unset u)
+  pub start-node-unset : (i : ℕ) → Nothing ≡ startNodeOf (plannerOf p) i
+  unfolding startNodeOf plannerOf
+  start-node-unset i = rw (view-unset _ _ _ u)
 
-  module _ (i : ℕ) where
-    pub start-node-set : isUsable ≡ true → nodeAtOf (nodesOf (p .«start_tree»)) i ≡ startNodeOf (plannerOf p) i
-    unfolding startNodeOf treesOf
-    start-node-set u = rw (view-set u)
-
-    pub start-node-unset : isUsable ≡ false → Nothing ≡ startNodeOf (plannerOf p) i
-    unfolding startNodeOf
-    start-node-unset u = rw (view-unset u)
-
-    pub goal-node-set : isUsable ≡ true → nodeAtOf (nodesOf (p .«goal_tree»)) i ≡ goalNodeOf (plannerOf p) i
-    unfolding goalNodeOf treesOf
-    goal-node-set u = rw (view-set u)
-
-    pub goal-node-unset : isUsable ≡ false → Nothing ≡ goalNodeOf (plannerOf p) i
-    unfolding goalNodeOf
-    goal-node-unset u = rw (view-unset u)
+  pub goal-node-unset : (i : ℕ) → Nothing ≡ goalNodeOf (plannerOf p) i
+  unfolding goalNodeOf plannerOf
+  goal-node-unset i = rw (view-unset _ _ _ u)

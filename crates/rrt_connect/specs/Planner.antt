@@ -1,7 +1,7 @@
 -- What an RRT-Connect planner is to its caller. Its setup takes RRT's fields; the start tree is then its root alone, and the goal tree is
 -- empty.
 use Prim.Native.Nat.{ℕ}
-use mathlib.Core.Bool.{Bool, _&&_, cond}
+use mathlib.Core.Bool.{Bool, _&&_}
 use lib.Dec.{leb}
 use Rattle.state.specs.declared.State.{State}
 use Rattle.fields.specs.declared.Limits.{Limits}
@@ -9,13 +9,12 @@ use Rattle.fields.specs.declared.Length.{Length}
 use Rattle.fields.specs.declared.Goal.{Goal}
 use Rattle.keep_out.specs.declared.KeepOut.{KeepOut}
 use Rattle.keep_out_table.specs.declared.KeepOuts.{KeepOuts}
-use Rattle.mount.specs.declared.Mount.{Mount}
 use Rattle.tree.specs.Table.{nodesOf, nodeAtOf, rootOf, noNodes}
 use Rattle.tree.specs.declared.NodeAt.{NodeAt}
 use Rattle.tree.specs.declared.NodeAt.the-variants.{Nothing}
-use Rattle.plan.specs.Plan.{Plan, planFrom, planUnder, Planner, unset, set}
+use Rattle.plan.specs.Plan.{Plan, planOf, planUnder, Planner, unset, set, viewOf}
 use Rattle.plan.specs.Setup as setup
-use Rattle.plan.specs.Setup.{Told, goodSetup, setupWith}
+use Rattle.plan.specs.Setup.{Told, settingOf, setupWith}
 use Rattle.plan.specs.KeepOut.{addWith}
 use Rattle.turn.specs.Trees.{Trees, sizeOf}
 use Rattle.rrt_connect.specs.declared.RrtConnect.{RrtConnect}
@@ -33,7 +32,7 @@ treesOf p = record { start = nodesOf (p .«start_tree»); goal = nodesOf (p .«g
 
 unfoldable pub plannerOf : RrtConnect → View
 plannerOf p =
-    cond (usableOf (p .ready) (p .«start_tree» .count) (p .«goal_tree» .count)) (set (planFrom (p .mount) (p .«max_distance») (p .goal)) (treesOf p)) unset
+    viewOf (usableOf (p .setting .ready) (p .«start_tree» .count) (p .«goal_tree» .count)) (planOf (p .setting)) (treesOf p)
 
 abbrev pub newOf : View
 newOf = unset
@@ -43,8 +42,8 @@ answeredOf r = record { planner = plannerOf (r .planner); answer = r .answer }
 
 unfoldable pub setupOf : View → Limits → Length → Length → State → Goal → KeepOuts → Told Plan Trees
 setupOf planner limits segment max start goal table =
-    let mount : Mount = record { limits = limits; segment = segment; table = table } in
-    setupWith planner (goodSetup mount max start goal) (planFrom mount max goal) (record { start = rootOf start; goal = noNodes })
+    let setting = settingOf limits segment max start goal table in
+    setupWith planner (setting .ready) (planOf setting) (record { start = rootOf start; goal = noNodes })
 
 -- a keep-out more for the motions to come; the trees stay
 unfoldable pub addOf : View → KeepOut → Told Plan Trees

@@ -6,7 +6,7 @@ use fields::Length;
 use fields::Limits;
 use keep_out::KeepOut;
 use keep_out_table::KeepOuts;
-use mount::Mount;
+use plan::Setting;
 use state::State;
 use tree::NodeAt;
 use tree::Tree;
@@ -16,10 +16,7 @@ ghost use Rattle.rrt_connect.specs.Solve.{solvedOf, solveOf};
 
 // What an accepted setup gave, and the trees that have grown since.
 pub struct RrtConnect {
-    ready: bool,
-    mount: Mount,
-    max_distance: Length,
-    goal: Goal,
+    setting: Setting,
     start_tree: Tree,
     goal_tree: Tree,
 }
@@ -62,20 +59,7 @@ impl RrtConnect {
             feed: 0.0,
         };
         RrtConnect {
-            ready: false,
-            mount: Mount {
-                limits: Limits {
-                    low: zero,
-                    high: zero,
-                },
-                segment: Length { value: 1.0 },
-                table: KeepOuts::new(),
-            },
-            max_distance: Length { value: 1.0 },
-            goal: Goal {
-                centre: zero,
-                radius: 0.0,
-            },
+            setting: Setting::none(),
             start_tree: Tree::rooted(zero),
             goal_tree: Tree::none(),
         }
@@ -93,17 +77,10 @@ impl RrtConnect {
     ) -> Answered
         ensures { λ r. ⌜ answeredOf r ≡ setupOf (plannerOf self) limits segment «max_distance» start goal table ⌝ }
     {
-        let mount = Mount {
-            limits,
-            segment,
-            table,
-        };
-        if plan::is_good(mount, max_distance, start, goal) {
+        let setting = Setting::new(limits, segment, max_distance, start, goal, table);
+        if setting.ready {
             let planner = RrtConnect {
-                ready: true,
-                mount,
-                max_distance,
-                goal,
+                setting,
                 start_tree: Tree::rooted(start),
                 goal_tree: Tree::none(),
             };
@@ -123,10 +100,11 @@ impl RrtConnect {
     pub fn solve(self, samples: &[f64], route: &mut [f64]) -> Solved
         ensures { λ r. ⌜ solvedOf r (now (route .exit)) ≡ solveOf (plannerOf self) (now (samples .entry)) (now (route .entry)) ⌝ }
     {
+        let setting = self.setting;
         let start = self.start_tree;
         let goal = self.goal_tree;
         let good = samples::are_good(samples);
-        if usable(self.ready, start.count, goal.count) {
+        if usable(setting.ready, start.count, goal.count) {
             if route.len() < RrtConnect::ROUTE {
                 return Solved {
                     planner: self,
@@ -137,9 +115,9 @@ impl RrtConnect {
             }
             if good {
                 let ran = connect_run::run(
-                    self.mount,
-                    self.max_distance,
-                    self.goal,
+                    setting.mount,
+                    setting.reach,
+                    setting.goal,
                     start,
                     goal,
                     samples,
@@ -178,20 +156,13 @@ impl RrtConnect {
     pub fn add_keep_out(self, k: KeepOut) -> Answered
         ensures { λ r. ⌜ answeredOf r ≡ addOf (plannerOf self) k ⌝ }
     {
-        let mount = self.mount;
-        if usable(self.ready, self.start_tree.count, self.goal_tree.count) {
-            let more = plan::with_keep_out(mount.table, k);
-            let table = more.table;
+        let setting = self.setting;
+        if usable(setting.ready, self.start_tree.count, self.goal_tree.count) {
+            let more = setting.with_keep_out(k);
+            let longer = more.setting;
             let answer = more.answer;
-            let limits = mount.limits;
-            let segment = mount.segment;
-            let longer = Mount {
-                limits,
-                segment,
-                table,
-            };
             let mut planner = self;
-            planner.mount = longer;
+            planner.setting = longer;
             return Answered { planner, answer };
         }
         Answered {
@@ -205,7 +176,7 @@ impl RrtConnect {
         ensures { λ r. ⌜ r ≡ startSizeOf (plannerOf self) ⌝ }
     {
         let n = self.start_tree.count;
-        if usable(self.ready, n, self.goal_tree.count) {
+        if usable(self.setting.ready, n, self.goal_tree.count) {
             n
         } else {
             0
@@ -216,7 +187,7 @@ impl RrtConnect {
         ensures { λ r. ⌜ r ≡ goalSizeOf (plannerOf self) ⌝ }
     {
         let m = self.goal_tree.count;
-        if usable(self.ready, self.start_tree.count, m) {
+        if usable(self.setting.ready, self.start_tree.count, m) {
             m
         } else {
             0
@@ -228,7 +199,7 @@ impl RrtConnect {
     {
         let tree = self.start_tree;
         let n = tree.count;
-        if usable(self.ready, n, self.goal_tree.count) {
+        if usable(self.setting.ready, n, self.goal_tree.count) {
             return tree::node_at(&tree.az, &tree.el, &tree.feed, &tree.parent, n, i);
         }
         NodeAt::Nothing
@@ -239,7 +210,7 @@ impl RrtConnect {
     {
         let tree = self.goal_tree;
         let m = tree.count;
-        if usable(self.ready, self.start_tree.count, m) {
+        if usable(self.setting.ready, self.start_tree.count, m) {
             return tree::node_at(&tree.az, &tree.el, &tree.feed, &tree.parent, m, i);
         }
         NodeAt::Nothing

@@ -1,5 +1,3 @@
 -- The crate's laws that belong to no one function.
 pub mod Views
 pub mod Setups
-pub mod Solves
-pub mod Adds

@@ -12,12 +12,11 @@ use Rattle.fields.specs.declared.Length.{Length}
 use Rattle.fields.specs.declared.Goal.{Goal}
 use Rattle.keep_out.specs.declared.KeepOut.{KeepOut}
 use Rattle.keep_out_table.specs.declared.KeepOuts.{KeepOuts}
-use Rattle.mount.specs.declared.Mount.{Mount}
 use Rattle.tree.specs.Table.{nodeAtOf, rootOf}
 use Rattle.tree.specs.declared.NodeAt.{NodeAt}
 use Rattle.tree.specs.declared.NodeAt.the-variants as node
-use Rattle.plan.specs.Plan.{Planner, unset, set}
-use Rattle.plan.specs.Setup.{Told, goodSetup, setupWith, usableOf}
+use Rattle.plan.specs.Plan.{Planner, unset, set, viewOf}
+use Rattle.plan.specs.Setup.{Told, settingOf, setupWith, usableOf}
 use Rattle.plan.specs.KeepOut.{addWith}
 use Rattle.star.specs.Grow.{Costed}
 use Rattle.star_run.specs.Run.{StarPlan, starPlan, starUnder, treeOf}
@@ -31,7 +30,7 @@ View = Planner StarPlan Costed
 
 unfoldable pub plannerOf : RrtStar → View
 plannerOf p =
-    cond (usableOf (p .ready) (p .tree .count)) (set (starPlan (p .mount) (p .«max_distance») (p .«search_radius») (p .goal)) (treeOf (p .tree) (p .cost))) unset
+    viewOf (usableOf (p .setting .ready) (p .tree .count)) (starPlan (p .setting .mount) (p .setting .reach) (p .«search_radius») (p .setting .goal)) (treeOf (p .tree) (p .cost))
 
 abbrev pub newOf : View
 newOf = unset
@@ -45,8 +44,8 @@ rootCosted start = record { nodes = rootOf start; costs = ofBits binary64 0 ∷ 
 
 unfoldable pub setupOf : View → Limits → Length → Length → Length → State → Goal → KeepOuts → Told StarPlan Costed
 setupOf planner limits segment max radius start goal table =
-    let mount : Mount = record { limits = limits; segment = segment; table = table } in
-    setupWith planner (goodSetup mount max start goal && goodLength radius) (starPlan mount max radius goal) (rootCosted start)
+    let setting = settingOf limits segment max start goal table in
+    setupWith planner (setting .ready && goodLength radius) (starPlan (setting .mount) (setting .reach) radius (setting .goal)) (rootCosted start)
 
 -- a keep-out more for the motions to come; the tree stays
 unfoldable pub addOf : View → KeepOut → Told StarPlan Costed

@@ -6,7 +6,7 @@ use fields::Length;
 use fields::Limits;
 use keep_out::KeepOut;
 use keep_out_table::KeepOuts;
-use mount::Mount;
+use plan::Setting;
 use state::State;
 use tree::NodeAt;
 use tree::Tree;
@@ -16,11 +16,8 @@ ghost use Rattle.rrt_star.specs.Solve.{solvedOf, solveOf};
 
 // What an accepted setup gave, the tree that has grown since, and what each node costs.
 pub struct RrtStar {
-    ready: bool,
-    mount: Mount,
-    max_distance: Length,
+    setting: Setting,
     search_radius: Length,
-    goal: Goal,
     tree: Tree,
     cost: [f64; 512],
 }
@@ -59,21 +56,8 @@ impl RrtStar {
             feed: 0.0,
         };
         RrtStar {
-            ready: false,
-            mount: Mount {
-                limits: Limits {
-                    low: zero,
-                    high: zero,
-                },
-                segment: Length { value: 1.0 },
-                table: KeepOuts::new(),
-            },
-            max_distance: Length { value: 1.0 },
+            setting: Setting::none(),
             search_radius: Length { value: 1.0 },
-            goal: Goal {
-                centre: zero,
-                radius: 0.0,
-            },
             tree: Tree::rooted(zero),
             cost: [0.0; 512],
         }
@@ -92,19 +76,12 @@ impl RrtStar {
     ) -> Answered
         ensures { λ r. ⌜ answeredOf r ≡ setupOf (plannerOf self) limits segment «max_distance» «search_radius» start goal table ⌝ }
     {
-        let mount = Mount {
-            limits,
-            segment,
-            table,
-        };
-        if plan::is_good(mount, max_distance, start, goal) {
+        let setting = Setting::new(limits, segment, max_distance, start, goal, table);
+        if setting.ready {
             if search_radius.is_good() {
                 let planner = RrtStar {
-                    ready: true,
-                    mount,
-                    max_distance,
+                    setting,
                     search_radius,
-                    goal,
                     tree: Tree::rooted(start),
                     cost: [0.0; 512],
                 };
@@ -125,10 +102,11 @@ impl RrtStar {
     pub fn solve(self, samples: &[f64], route: &mut [f64]) -> Solved
         ensures { λ r. ⌜ solvedOf r (now (route .exit)) ≡ solveOf (plannerOf self) (now (samples .entry)) (now (route .entry)) ⌝ }
     {
+        let setting = self.setting;
         let tree = self.tree;
         let cost = self.cost;
         let good = samples::are_good(samples);
-        if plan::is_usable(self.ready, tree.count) {
+        if plan::is_usable(setting.ready, tree.count) {
             if route.len() < RrtStar::ROUTE {
                 return Solved {
                     planner: self,
@@ -139,10 +117,10 @@ impl RrtStar {
             }
             if good {
                 let ran = star_run::run(
-                    self.mount,
-                    self.max_distance,
+                    setting.mount,
+                    setting.reach,
                     self.search_radius,
-                    self.goal,
+                    setting.goal,
                     tree,
                     cost,
                     samples,
@@ -181,20 +159,13 @@ impl RrtStar {
     pub fn add_keep_out(self, k: KeepOut) -> Answered
         ensures { λ r. ⌜ answeredOf r ≡ addOf (plannerOf self) k ⌝ }
     {
-        let mount = self.mount;
-        if plan::is_usable(self.ready, self.tree.count) {
-            let more = plan::with_keep_out(mount.table, k);
-            let table = more.table;
+        let setting = self.setting;
+        if plan::is_usable(setting.ready, self.tree.count) {
+            let more = setting.with_keep_out(k);
+            let longer = more.setting;
             let answer = more.answer;
-            let limits = mount.limits;
-            let segment = mount.segment;
-            let longer = Mount {
-                limits,
-                segment,
-                table,
-            };
             let mut planner = self;
-            planner.mount = longer;
+            planner.setting = longer;
             return Answered { planner, answer };
         }
         Answered {
@@ -208,7 +179,11 @@ impl RrtStar {
         ensures { λ r. ⌜ r ≡ sizeOf (plannerOf self) ⌝ }
     {
         let n = self.tree.count;
-        if plan::is_usable(self.ready, n) { n } else { 0 }
+        if plan::is_usable(self.setting.ready, n) {
+            n
+        } else {
+            0
+        }
     }
 
     pub fn node(self, i: usize) -> NodeAt
@@ -216,7 +191,7 @@ impl RrtStar {
     {
         let tree = self.tree;
         let n = tree.count;
-        if plan::is_usable(self.ready, n) {
+        if plan::is_usable(self.setting.ready, n) {
             return tree::node_at(&tree.az, &tree.el, &tree.feed, &tree.parent, n, i);
         }
         NodeAt::Nothing
@@ -226,7 +201,7 @@ impl RrtStar {
         ensures { λ r. ⌜ r ≡ costOf (plannerOf self) i ⌝ }
     {
         let n = self.tree.count;
-        if plan::is_usable(self.ready, n) {
+        if plan::is_usable(self.setting.ready, n) {
             if i < n {
                 return CostAt::Cost(self.cost[i]);
             }

@@ -4,8 +4,8 @@ use Rattle.rrt_connect.proofs.Setups.{setup-refused, setup-done}
 use Rattle.rrt_connect.proofs.RrtConnect.setup.Statement.{statement}
 use Rattle.rrt_connect.proofs.RrtConnect.setup.Tie as tie
 
-is-good-requires : tie.Need-is-good-requires
-is-good-requires c κs = search needs
+new-requires : tie.Need-new-requires
+new-requires c κs = search needs
 
 rooted-requires : tie.Need-rooted-requires
 rooted-requires c κs = search needs
@@ -16,10 +16,10 @@ none-requires c κs = search needs
 returns : tie.Need-returns
 returns c =
     let rooted = c .before in
-    setup-done _ _ _ _ _ _ _ _ (rooted .before .before .is-good .ensures) (rooted .before .if1 .taken) _ _ (rooted .rooted .ensures) (c .none .ensures)
+    setup-done _ _ _ _ _ _ _ _ (rooted .before .before .new .ensures) (rooted .before .if1 .taken) _ _ (rooted .rooted .ensures) (c .none .ensures)
 
 returns-2 : tie.Need-returns-2
-returns-2 c = setup-refused _ _ _ _ _ _ _ _ (c .before .is-good .ensures) (c .if1 .left)
+returns-2 c = setup-refused _ _ _ _ _ _ _ _ (c .before .new .ensures) (c .if1 .left)
 
 pub setup-spec : {M : Type 1} → statement M
-setup-spec = tie.close (tie.spec is-good-requires rooted-requires none-requires returns returns-2)
+setup-spec = tie.close (tie.spec new-requires rooted-requires none-requires returns returns-2)

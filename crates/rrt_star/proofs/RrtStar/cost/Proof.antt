@@ -25,7 +25,7 @@ returns-2 : tie.Need-returns-2
 returns-2 c = cost-past _ (sym (c .before .before .is-usable .ensures) ∙ c .before .if1 .taken) _ (c .if2 .left)
 
 returns-3 : tie.Need-returns-3
-returns-3 c = cost-unset _ _ (sym (c .before .is-usable .ensures) ∙ c .if1 .left)
+returns-3 c = cost-unset _ (sym (c .before .is-usable .ensures) ∙ c .if1 .left) _
 
 pub cost-spec : {M : Type 1} → statement M
 cost-spec =

@@ -19,7 +19,7 @@ returns c =
     c .node-at .ensures ∙ node-set _ (sym (inside .before .is-usable .ensures) ∙ inside .if1 .taken) _
 
 returns-2 : tie.Need-returns-2
-returns-2 c = node-unset _ _ (sym (c .before .is-usable .ensures) ∙ c .if1 .left)
+returns-2 c = node-unset _ (sym (c .before .is-usable .ensures) ∙ c .if1 .left) _
 
 pub node-spec : {M : Type 1} → statement M
 node-spec = tie.close (tie.spec is-usable-requires node-at-requires returns returns-2)
