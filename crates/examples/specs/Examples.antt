@@ -60,6 +60,7 @@ use Rattle.rrt_star.specs.Solve as star-solve
 use Rattle.roadmap.specs.Map.{Milestone, milestoneAt, markOf, addOf, flagsOf}
 use Rattle.roadmap.specs.View.{spanOf}
 use Rattle.construct.specs.Construct as roadmap
+use Rattle.queue.specs.Places as queue
 use Rattle.search.specs.Search as search
 use Rattle.search.specs.Query as search-query
 use Rattle.prune.specs.Hit.{meetsOf, hitAmong, hitOf}
@@ -247,5 +248,5 @@ examples =
     ∷ []
 
 pub examples-hold : T (allHold examples)
-unfolding examples allHold holds counts pointsAre writes gives plannedBy same sameState sameLists distanceOf widerOf apartOf interpolateOf steerBy steerOf satisfiedOf insideOf withinOf coordinateOf goodState atMostOf goodSpan goodLimits goodLength goodGoal coversOf coveredOf allGood goodTable keepOutsOf emptyTable validOf goodMount quotientOf searchOf leastOf stepsOf partWay partWays testedOf checkedAt checkedOf allValid acceptedOf acceptsOf allCoordinates goodSamples samplesOf grownOf rootOf nearestFrom nearestOf stepFrom stepOf climbOf pathOf flatOf writtenOf goodSetup settingOf setupWith setupOf afterOf runOf endedOf solveWith solveOf connectedBy ancestorsOf upwardsOf afterStep extendOf connectEnds byVerdict turnOf roundOf endPath planner.setupOf run.afterOf run.runOf connect.solveOf rewiredBy hangs neighboursFrom neighboursOf costVia isBetter chooseFrom chooseOf costUnder moves rewireOf addedOf grow.afterStep growOf star-run.afterOf star-run.runOf star.setupOf star-solve.solveOf chartedBy askedOf joins spanOf milestoneAt markOf addOf flagsOf roadmap.joinedOf roadmap.runOf roadmap.constructOf search.numbersOf search.connectionsOf search.neighboursOf search.placeAt search.queuedOf search.pushOf search.searchOf search-query.goalOf search-query.soughtOf search-query.treeOf search-query.routeOf search-query.queryOf prm.setupOf prm.goalsOf prm-construct.constructOf prm-query.foundOf prm-query.queryOf stands takesAll goodKeepOut longerOf meetsOf hitAmong hitOf leftOf leavesOf prunedOf prm-adding.addOf prm-adding.addedAll add sub mul div lt le ofInt ofBits toBits
+unfolding examples allHold holds counts pointsAre writes gives plannedBy same sameState sameLists distanceOf widerOf apartOf interpolateOf steerBy steerOf satisfiedOf insideOf withinOf coordinateOf goodState atMostOf goodSpan goodLimits goodLength goodGoal coversOf coveredOf allGood goodTable keepOutsOf emptyTable validOf goodMount quotientOf searchOf leastOf stepsOf partWay partWays testedOf checkedAt checkedOf allValid acceptedOf acceptsOf allCoordinates goodSamples samplesOf grownOf rootOf nearestFrom nearestOf stepFrom stepOf climbOf pathOf flatOf writtenOf goodSetup settingOf setupWith setupOf afterOf runOf endedOf solveWith solveOf connectedBy ancestorsOf upwardsOf afterStep extendOf connectEnds byVerdict turnOf roundOf endPath planner.setupOf run.afterOf run.runOf connect.solveOf rewiredBy hangs neighboursFrom neighboursOf costVia isBetter chooseFrom chooseOf costUnder moves rewireOf addedOf grow.afterStep growOf star-run.afterOf star-run.runOf star.setupOf star-solve.solveOf chartedBy askedOf joins spanOf milestoneAt markOf addOf flagsOf roadmap.joinedOf roadmap.runOf roadmap.constructOf queue.numbersOf search.connectionsOf search.neighboursOf search.placeAt queue.queuedOf queue.pushOf search.searchOf search-query.goalOf search-query.soughtOf search-query.treeOf search-query.routeOf search-query.queryOf prm.setupOf prm.goalsOf prm-construct.constructOf prm-query.foundOf prm-query.queryOf stands takesAll goodKeepOut longerOf meetsOf hitAmong hitOf leftOf leavesOf prunedOf prm-adding.addOf prm-adding.addedAll add sub mul div lt le ofInt ofBits toBits
 examples-hold = tt

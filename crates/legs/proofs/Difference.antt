@@ -6,10 +6,7 @@ use native.Mathlib.Omega.{arith}
 use lib.Bits.{bitOr, bitXor, differ, or-shr, xor-shr, xor-step, or-lt, xor-lt}
 use lib.Dec.{eqb}
 use Rattle.legs.specs.Bits.{bitOf, Without}
-use Rattle.legs.proofs.Square.{odd-or}
-
-no-digit : (p : ℕ) → suc (suc p) < 2 → ⊥
-no-digit p h = omega arith
+use Rattle.legs.proofs.Square.{odd-or, no-digit}
 
 differ-low : (p q : ℕ) → p < 2 → q < 2 → differ p q < 2
 differ-low zero q a b = b

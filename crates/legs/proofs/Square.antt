@@ -1,6 +1,6 @@
 -- Laws of the square of bits: what setting one bit of a word does to each bit of the square.
 use Prim.Native.Nat.{ℕ, zero, suc, _+_, _*_, _/_, _%_, _^_, _<_, max}
-use mathlib.Core.Bool.{Bool, true, false, _&&_, _||_}
+use mathlib.Core.Bool.{Bool, false, _&&_, _||_, or-false, and-false}
 use mathlib.Core.List.{List}
 use mathlib.Core.Path.{_≡_, refl, sym, _∙_, ap}
 use native.Mathlib.Omega.{arith}
@@ -29,23 +29,17 @@ power-bit (suc k) (suc j) = rw (pow-succ' 2 k, pow-succ' 2 j, mul-div-mul-left {
 pub odd-or : (x y : ℕ) → bitOr x y % 2 ≡ max (x % 2) (y % 2)
 odd-or x y = omega (arith, or-step x y)
 
+pub no-digit : (p : ℕ) → suc (suc p) < 2 → ⊥
+no-digit p h = omega arith
+
 either : (x y : ℕ) → x < 2 → y < 2 → eqb (max x y) 1 ≡ eqb x 1 || eqb y 1
 either zero zero p q = refl
 either zero (suc zero) p q = refl
-either zero (suc (suc y)) p q = absurd (none y q)
-  where
-    none : (y : ℕ) → suc (suc y) < 2 → ⊥
-    none y q = omega arith
+either zero (suc (suc y)) p q = absurd (no-digit y q)
 either (suc zero) zero p q = refl
 either (suc zero) (suc zero) p q = refl
-either (suc zero) (suc (suc y)) p q = absurd (none y q)
-  where
-    none : (y : ℕ) → suc (suc y) < 2 → ⊥
-    none y q = omega arith
-either (suc (suc x)) y p q = absurd (none x p)
-  where
-    none : (y : ℕ) → suc (suc y) < 2 → ⊥
-    none y q = omega arith
+either (suc zero) (suc (suc y)) p q = absurd (no-digit y q)
+either (suc (suc x)) y p q = absurd (no-digit x p)
 
 pub or-bit : (w v j : ℕ) → bitOf (bitOr w v) j ≡ bitOf w j || bitOf v j
 unfolding bitOf
@@ -57,17 +51,9 @@ with-bit w k j h =
     let f : 1 * 2 ^ k ≡ 2 ^ k = omega arith in
     rw (e, f) (or-bit w (2 ^ k) j ∙ ap (λ (b : Bool). bitOf w j || b) (power-bit k j))
 
-or-false : (b : Bool) → b || false ≡ b
-or-false true = refl
-or-false false = refl
-
-and-false : (a b : Bool) → b ≡ false → a && b ≡ false
-and-false true b p = p
-and-false false b p = refl
-
 -- the same pair
 pair-not : (a i b j : ℕ) → (a ≡ i → b ≡ j → ⊥) → eqb a i && eqb b j ≡ false
-pair-not a i b j h = elim (ℕ-discrete a i) [ yes p ↦ and-false (eqb a i) (eqb b j) (ne-eqb b j (h p)) | no p ↦ rw (ne-eqb a i p) ]
+pair-not a i b j h = elim (ℕ-discrete a i) [ yes p ↦ rw (ne-eqb b j (h p)) (and-false (eqb a i)) | no p ↦ rw (ne-eqb a i p) ]
 
 pair-low : (a i b j : ℕ) → a ≡ i → b / 64 ≡ j / 64 → eqb (b % 64) (j % 64) ≡ eqb a i && eqb b j
 pair-low a i b j p q =

@@ -1,8 +1,8 @@
 -- The walk over a row, a word at a time: what the word at the place `at`, shifted to that place, tells of the row.
 use Prim.Native.Nat.{ℕ, _+_, _*_, _-_, _/_, _%_, _^_, _≤_, _<_}
-use mathlib.Core.Bool.{Bool, true, false, _&&_}
+use mathlib.Core.Bool.{Bool, false, and-true}
 use mathlib.Core.List.{List}
-use mathlib.Core.Path.{_≡_, refl, sym, _∙_, ap}
+use mathlib.Core.Path.{_≡_, sym, _∙_, ap}
 use native.Mathlib.Omega.{arith}
 use native.Mathlib.Decide.{decLt}
 use lib.Count.{trailingZeros}
@@ -78,10 +78,6 @@ module _ (legs : List ℕ) (i : ℕ) (seen : List ℕ) (at word rest : ℕ) (is 
         (λ j a b. beyond row at j a false (row-here (j - at) (omega arith) ∙ ap (λ (x : ℕ). bitOf x (j - at)) e ∙ no-bits (j - at)))
 
 -- where none was seen
-and-true : (b : Bool) → b && true ≡ b
-and-true true = refl
-and-true false = refl
-
 all-unseen : (legs : List ℕ) (i j : ℕ) → unseenAt legs i (replicate 4 0) j ≡ legAt legs i j
 unfolding unseenAt
 all-unseen legs i j = rw (cleared 4 0 j) (and-true (legAt legs i j))

@@ -1,6 +1,6 @@
 // The legs of a roadmap: a square of bits, 256 rows of four words. The bit (i, j) says whether a leg joins the milestones i and j.
 ghost use mathlib.Core.Path.{_≡_};
-ghost use Prim.Native.Nat.{_≤_, _<_};
+ghost use Prim.Native.Nat.{_+_, _*_, _≤_, _<_};
 ghost use lib.ListN.{length};
 ghost use Rattle.legs.specs.Bits.{legAt, unseenAt, Marked, Linked, Without};
 ghost use Rattle.legs.specs.Next.{Next};
@@ -13,13 +13,13 @@ pub fn leg(legs: &[u64; 1024], i: usize, j: usize) -> bool
     (legs[4 * i + j / 64] >> (j % 64)) % 2 == 1
 }
 
-// Sets the bit (i, j).
-fn mark(legs: &mut [u64; 1024], i: usize, j: usize)
-    requires { ⌜ (i < 256) × (j < 256) × (length (now legs) ≡ 1024) ⌝ }
-    ensures { λ _. ⌜ Marked (now (legs .entry)) i j (now (legs .exit)) ⌝ }
+// Sets the bit (i, j) of as many rows as are lent.
+pub fn mark(rows: &mut [u64], i: usize, j: usize)
+    requires { ⌜ (i < 256) × (j < 256) × (4 * i + 4 ≤ length (now rows)) ⌝ }
+    ensures { λ _. ⌜ Marked (now (rows .entry)) i j (now (rows .exit)) ⌝ }
 {
     let at = 4 * i + j / 64;
-    legs[at] = legs[at] | (1 << (j % 64));
+    rows[at] = rows[at] | (1 << (j % 64));
 }
 
 // Joins i and j: sets the bits (i, j) and (j, i).

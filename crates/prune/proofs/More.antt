@@ -1,7 +1,7 @@
 -- One keep-out more, of any kind: validity, the motion check and a leg under the longer list, by what they were and what the new one does.
-use mathlib.Core.Bool.{Bool, true, false, not, _&&_, _||_, cond}
+use mathlib.Core.Bool.{Bool, true, false, not, _&&_, _||_, cond, or-false, or-assoc, and-assoc}
 use mathlib.Core.List.{List, [], _∷_, _++_}
-use mathlib.Core.Path.{_≡_, refl}
+use mathlib.Core.Path.{_≡_, refl, sym}
 use lib.Ieee.{Float, lt}
 use Rattle.state.specs.Distance.{distanceOf}
 use Rattle.state.specs.Ranges.{withinOf}
@@ -14,18 +14,6 @@ use Rattle.motion.specs.Points.{Checked, tooMany, points, checkedOf}
 use Rattle.motion.specs.Accepts.{allValid, acceptedOf, acceptsOf}
 use Rattle.construct.specs.Construct.{joinedOf}
 use Rattle.prune.specs.Hit.{meetsOf, hitAmong, hitOf}
-
-or-none : (b : Bool) → b || false ≡ b
-or-none true = refl
-or-none false = refl
-
-or-regroup : (a b c : Bool) → a || (b || c) ≡ (a || b) || c
-or-regroup true b c = refl
-or-regroup false b c = refl
-
-and-regroup : (a b c : Bool) → a && (b && c) ≡ a && b && c
-and-regroup true b c = refl
-and-regroup false b c = refl
 
 valid-split : (w c k : Bool) → w && not (c || k) ≡ (w && not c) && not k
 valid-split true true k = refl
@@ -41,8 +29,8 @@ walk-split false c later met = refl
 module _ (k : KeepOut) where
   covered-more : (ks : List KeepOut) (s : State) → coveredOf (ks ++ (k ∷ [])) s ≡ coveredOf ks s || coversOf k s
   unfolding coveredOf
-  covered-more [] s = or-none (coversOf k s)
-  covered-more (x ∷ ks) s = rw (covered-more ks s) (or-regroup (coversOf x s) (coveredOf ks s) (coversOf k s))
+  covered-more [] s = or-false (coversOf k s)
+  covered-more (x ∷ ks) s = rw (covered-more ks s) (sym (or-assoc (coversOf x s) (coveredOf ks s) (coversOf k s)))
 
   module _ (limits : Limits) (ks : List KeepOut) where
     -- valid under one more is valid, and not covered by it
@@ -70,4 +58,4 @@ module _ (k : KeepOut) where
       pub joined-more : (radius : Float) (new earlier : State) → joinedOf limits segment (ks ++ (k ∷ [])) radius new earlier ≡ (joinedOf limits segment ks radius new earlier && not (hitOf segment k new earlier))
       unfolding joinedOf
       joined-more radius new earlier =
-          rw (accepts-more new earlier) (and-regroup (lt (distanceOf new earlier) radius) (acceptsOf limits segment ks new earlier) (not (hitOf segment k new earlier)))
+          rw (accepts-more new earlier) (sym (and-assoc (lt (distanceOf new earlier) radius) (acceptsOf limits segment ks new earlier) (not (hitOf segment k new earlier))))

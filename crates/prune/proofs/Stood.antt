@@ -1,6 +1,6 @@
 -- The walk over the legs that stood: what one turn adds to the legs of a milestone that stays.
 use Prim.Native.Nat.{ℕ, _+_, _<_, _≤_}
-use mathlib.Core.Bool.{Bool, true, false, not, _&&_, _||_}
+use mathlib.Core.Bool.{Bool, true, false, not, _&&_, _||_, or-false, and-false, and-comm, and-or-distrib-left}
 use mathlib.Core.List.{List}
 use mathlib.Core.Path.{_≡_, refl, sym, _∙_, ap}
 use native.Mathlib.Omega.{arith}
@@ -11,32 +11,8 @@ use lib.ListN.{getD}
 use Rattle.legs.specs.Bits.{legAt, Linked}
 use Rattle.legs.specs.Next.{Next}
 use Rattle.roadmap.specs.View.{Joins}
+use Rattle.roadmap.proofs.Joins.{regroup, nothing}
 use Rattle.prune.specs.Numbers.{Numbers}
-
-regroup : (l x y p q : Bool) → l || x || y || p || q ≡ l || (x || p) || (y || q)
-regroup true x y p q = refl
-regroup false true y p q = refl
-regroup false false true true q = refl
-regroup false false true false q = refl
-regroup false false false p q = refl
-
-and-swap : (a b : Bool) → a && b ≡ b && a
-and-swap true true = refl
-and-swap true false = refl
-and-swap false true = refl
-and-swap false false = refl
-
-and-or : (a x y : Bool) → a && (x || y) ≡ (a && x) || (a && y)
-and-or true x y = refl
-and-or false x y = refl
-
-or-none : (b : Bool) → b || false ≡ b
-or-none true = refl
-or-none false = refl
-
-and-none : (b : Bool) → b && false ≡ false
-and-none true = refl
-and-none false = refl
 
 module _ (old : List ℕ) (n : ℕ) (g : ℕ → Bool) where
   -- other flags that are the same below n
@@ -55,9 +31,9 @@ module _ (old : List ℕ) (n : ℕ) (g : ℕ → Bool) where
       record {
         long = q .long ∙ p .long;
         is = λ a b ha hb. q .is a b ha hb ∙ ap (λ (z : Bool). z || (eqb a n && eqb b x) || (eqb a x && eqb b n)) (p .is a b ha hb)
-            ∙ ap (λ (z : Bool). legAt old a b || (eqb a n && (ltb b n && g b)) || (eqb b n && (ltb a n && g a)) || (eqb a n && eqb b x) || z) (and-swap (eqb a x) (eqb b n))
+            ∙ ap (λ (z : Bool). legAt old a b || (eqb a n && (ltb b n && g b)) || (eqb b n && (ltb a n && g a)) || (eqb a n && eqb b x) || z) (and-comm (eqb a x) (eqb b n))
             ∙ regroup (legAt old a b) (eqb a n && (ltb b n && g b)) (eqb b n && (ltb a n && g a)) (eqb a n && eqb b x) (eqb b n && eqb a x)
-            ∙ sym (rw (more-below g′ x l e b, more-below g′ x l e a, and-or (eqb a n) (ltb b n && g b) (eqb b x), and-or (eqb b n) (ltb a n && g a) (eqb a x)));
+            ∙ sym (rw (more-below g′ x l e b, more-below g′ x l e a, and-or-distrib-left (eqb a n) (ltb b n && g b) (eqb b x), and-or-distrib-left (eqb b n) (ltb a n && g a) (eqb a x)));
       }
 
   -- no flag
@@ -65,14 +41,7 @@ module _ (old : List ℕ) (n : ℕ) (g : ℕ → Bool) where
   joins-unset e = record { long = refl; is = λ a b ha hb. rw (unset b, unset a) (nothing (legAt old a b) (eqb a n) (eqb b n)) }
     where
       unset : (b : ℕ) → ltb b n && g b ≡ false
-      unset b = elim (decLt b n) [ yes h ↦ rw (e b h) (and-none (ltb b n)) | no h ↦ rw (le-ltb b n (omega arith)) ]
-
-      nothing : (l x y : Bool) → l ≡ l || (x && false) || (y && false)
-      nothing true x y = refl
-      nothing false true true = refl
-      nothing false true false = refl
-      nothing false false true = refl
-      nothing false false false = refl
+      unset b = elim (decLt b n) [ yes h ↦ rw (e b h) (and-false (ltb b n)) | no h ↦ rw (le-ltb b n (omega arith)) ]
 
 module _ (row hit : ℕ → Bool) (old at : List ℕ) (n i : ℕ) (w : Numbers old at n i) where
   -- the leg to the j-th that stays, if its former number is below o
@@ -82,7 +51,7 @@ module _ (row hit : ℕ → Bool) (old at : List ℕ) (n i : ℕ) (w : Numbers o
   pub kept-none : (r : ℕ) → Next row 0 r → (j : ℕ) → j < n → keptTo r j ≡ false
   kept-none r next j h =
       elim (decLt (getD old j 0) r) [
-        | yes l ↦ rw (next .passed (getD old j 0) (omega arith) l) (and-none (ltb (getD old j 0) r))
+        | yes l ↦ rw (next .passed (getD old j 0) (omega arith) l) (and-false (ltb (getD old j 0) r))
         | no l ↦ rw (le-ltb (getD old j 0) r (omega arith))
       ]
 
@@ -97,7 +66,7 @@ module _ (row hit : ℕ → Bool) (old at : List ℕ) (n i : ℕ) (w : Numbers o
           | yes l ↦ rw (lt-ltb (getD old j 0) o l, lt-ltb (getD old j 0) r (omega (arith, next .onward)))
           | no l ↦
               elim (decLt (getD old j 0) r) [
-                | yes m ↦ (let past : o + 1 ≤ getD old j 0 = omega (arith, later l) in rw (next .passed (getD old j 0) past m, le-ltb (getD old j 0) o (omega arith)) (and-none (ltb (getD old j 0) r)))
+                | yes m ↦ (let past : o + 1 ≤ getD old j 0 = omega (arith, later l) in rw (next .passed (getD old j 0) past m, le-ltb (getD old j 0) o (omega arith)) (and-false (ltb (getD old j 0) r)))
                 | no m ↦ rw (le-ltb (getD old j 0) o (omega arith), le-ltb (getD old j 0) r (omega arith))
               ]
         ]
@@ -122,5 +91,5 @@ module _ (row hit : ℕ → Bool) (old at : List ℕ) (n i : ℕ) (w : Numbers o
     kept-free l f j h =
         elim (ℕ-discrete (getD old j 0) o) [
           | yes e ↦ (let z : j ≡ getD at o 0 = sym (w .back j h) ∙ ap (λ (x : ℕ). getD at x 0) e in this-past j e ∙ rw (f, this-to j e, eq-eqb j (getD at o 0) z))
-          | no e ↦ other j h e ∙ rw (ne-eqb j (getD at o 0) (λ z. e (ap (λ (x : ℕ). getD old x 0) z ∙ w .there o inside l))) (sym (or-none (keptTo o j)))
+          | no e ↦ other j h e ∙ rw (ne-eqb j (getD at o 0) (λ z. e (ap (λ (x : ℕ). getD old x 0) z ∙ w .there o inside l))) (sym (or-false (keptTo o j)))
         ]

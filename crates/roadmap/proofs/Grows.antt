@@ -1,6 +1,6 @@
 -- The roadmap with one milestone more, as the code writes it.
 use Prim.Native.Nat.{ℕ, suc, _+_, _<_}
-use mathlib.Core.Bool.{Bool, true, false, _&&_, _||_}
+use mathlib.Core.Bool.{Bool, false, _&&_, _||_, or-false, and-false}
 use mathlib.Core.List.{List, [], _∷_, _++_}
 use mathlib.Core.Path.{_≡_, refl, sym, _∙_, ap₂}
 use native.Mathlib.Omega.{arith}
@@ -16,7 +16,6 @@ use Rattle.roadmap.specs.Map.{Milestone, addOf}
 use Rattle.state.specs.Rows.{rowAt}
 use Rattle.roadmap.specs.View.{spanOf, viewOf, Clean, Joins}
 use Rattle.roadmap.proofs.Span.{span-snoc, span-same, span-mark}
-use Rattle.roadmap.proofs.Joins.{or-none}
 
 module _ (az el feed : List Float) (old : List ℕ) (n : ℕ) (f : ℕ → Bool) (now : List ℕ) (s : State)
     (la : length az ≡ 256) (le : length el ≡ 256) (lf : length feed ≡ 256) (room : n < 256) (clean : Clean old n) (joins : Joins old n n f now) where
@@ -32,13 +31,13 @@ module _ (az el feed : List Float) (old : List ℕ) (n : ℕ) (f : ℕ → Bool)
   cell : (a b : ℕ) → a < n → b < n → legAt now a b ≡ legAt old a b
   cell a b ha hb =
       joins .is a b (omega arith) (omega arith)
-      ∙ rw (ne-eqb a n (λ e. omega arith), ne-eqb b n (λ e. omega arith)) (or-none (legAt old a b || false) ∙ or-none (legAt old a b))
+      ∙ rw (ne-eqb a n (λ e. omega arith), ne-eqb b n (λ e. omega arith)) (or-false (legAt old a b || false) ∙ or-false (legAt old a b))
 
   cell-column : (a : ℕ) → a < n → legAt now a n ≡ f a
   cell-column a ha = joins .is a n (omega arith) room ∙ rw (clean .column a n (omega arith) room (omega arith), ne-eqb a n (λ e. omega arith), eq-eqb n n refl, lt-ltb a n ha)
 
   cell-row : (b : ℕ) → b < n → legAt now n b ≡ f b
-  cell-row b hb = joins .is n b room (omega arith) ∙ rw (clean .row n b room (omega arith) (omega arith), ne-eqb b n (λ e. omega arith), eq-eqb n n refl, lt-ltb b n hb) (or-none (f b))
+  cell-row b hb = joins .is n b room (omega arith) ∙ rw (clean .row n b room (omega arith) (omega arith), ne-eqb b n (λ e. omega arith), eq-eqb n n refl, lt-ltb b n hb) (or-false (f b))
 
   cell-last : legAt now n n ≡ false
   cell-last = joins .is n n room room ∙ rw (clean .row n n room room (omega arith), eq-eqb n n refl, le-ltb n n (omega arith))
@@ -88,12 +87,8 @@ module _ (az el feed : List Float) (old : List ℕ) (n : ℕ) (f : ℕ → Bool)
   pub clean-add : Clean now (n + 1)
   clean-add =
       record {
-        row = λ a b ha hb h. joins .is a b ha hb ∙ rw (clean .row a b ha hb (omega arith), ne-eqb a n (λ e. omega arith), le-ltb a n (omega arith)) (nothing (eqb b n));
+        row = λ a b ha hb h. joins .is a b ha hb ∙ rw (clean .row a b ha hb (omega arith), ne-eqb a n (λ e. omega arith), le-ltb a n (omega arith)) (and-false (eqb b n));
         column =
             λ a b ha hb h. joins .is a b ha hb
-            ∙ rw (clean .column a b ha hb (omega arith), ne-eqb b n (λ e. omega arith), le-ltb b n (omega arith)) (or-none (eqb a n && false) ∙ nothing (eqb a n));
+            ∙ rw (clean .column a b ha hb (omega arith), ne-eqb b n (λ e. omega arith), le-ltb b n (omega arith)) (or-false (eqb a n && false) ∙ and-false (eqb a n));
       }
-    where
-      nothing : (x : Bool) → x && false ≡ false
-      nothing true = refl
-      nothing false = refl

@@ -1,6 +1,6 @@
 -- The legs of a new milestone, mark by mark.
 use Prim.Native.Nat.{ℕ, _+_, _<_}
-use mathlib.Core.Bool.{Bool, true, false, _&&_, _||_}
+use mathlib.Core.Bool.{Bool, true, false, _&&_, _||_, or-false, and-comm}
 use mathlib.Core.List.{List}
 use mathlib.Core.Path.{_≡_, refl, sym, _∙_, ap}
 use native.Mathlib.Omega.{arith}
@@ -10,7 +10,7 @@ use lib.Dec.{eqb, ltb}
 use Rattle.legs.specs.Bits.{legAt, Linked}
 use Rattle.roadmap.specs.View.{Joins}
 
-regroup : (l x y p q : Bool) → l || x || y || p || q ≡ l || (x || p) || (y || q)
+pub regroup : (l x y p q : Bool) → l || x || y || p || q ≡ l || (x || p) || (y || q)
 regroup true x y p q = refl
 regroup false true y p q = refl
 regroup false false true true q = refl
@@ -25,15 +25,12 @@ next true true true false p = sym p
 next true true false false p = refl
 next true false e f p = sym p
 
-and-swap : (a b : Bool) → a && b ≡ b && a
-and-swap true true = refl
-and-swap true false = refl
-and-swap false true = refl
-and-swap false false = refl
-
-pub or-none : (b : Bool) → b || false ≡ b
-or-none true = refl
-or-none false = refl
+pub nothing : (l x y : Bool) → l ≡ l || (x && false) || (y && false)
+nothing true x y = refl
+nothing false true true = refl
+nothing false true false = refl
+nothing false false true = refl
+nothing false false false = refl
 
 ltb-more : (b j : ℕ) → ltb b (j + 1) ≡ ltb b j || eqb b j
 ltb-more b j = elim (decLt b j) [ yes p ↦ rw (lt-ltb b (j + 1) (omega arith), lt-ltb b j p) | no p ↦ over (ℕ-discrete b j) p ]
@@ -45,13 +42,6 @@ ltb-more b j = elim (decLt b j) [ yes p ↦ rw (lt-ltb b (j + 1) (omega arith), 
 module _ (old : List ℕ) (n : ℕ) (f : ℕ → Bool) where
   pub joins-none : Joins old n 0 f old
   joins-none = record { long = refl; is = λ a b ha hb. rw (le-ltb b 0 (omega arith), le-ltb a 0 (omega arith)) (nothing (legAt old a b) (eqb a n) (eqb b n)) }
-    where
-      nothing : (l x y : Bool) → l ≡ l || (x && false) || (y && false)
-      nothing true x y = refl
-      nothing false true true = refl
-      nothing false true false = refl
-      nothing false false true = refl
-      nothing false false false = refl
 
   -- at j, the flag counts
   here : (j b : ℕ) → f j ≡ true → eqb b j ≡ eqb b j && f b
@@ -62,13 +52,13 @@ module _ (old : List ℕ) (n : ℕ) (f : ℕ → Bool) where
       record {
         long = q .long ∙ p .long;
         is = λ a b ha hb. q .is a b ha hb ∙ ap (λ (x : Bool). x || (eqb a n && eqb b j) || (eqb a j && eqb b n)) (p .is a b ha hb)
-            ∙ ap (λ (x : Bool). legAt old a b || (eqb a n && (ltb b j && f b)) || (eqb b n && (ltb a j && f a)) || (eqb a n && eqb b j) || x) (and-swap (eqb a j) (eqb b n))
+            ∙ ap (λ (x : Bool). legAt old a b || (eqb a n && (ltb b j && f b)) || (eqb b n && (ltb a j && f a)) || (eqb a n && eqb b j) || x) (and-comm (eqb a j) (eqb b n))
             ∙ regroup (legAt old a b) (eqb a n && (ltb b j && f b)) (eqb b n && (ltb a j && f a)) (eqb a n && eqb b j) (eqb b n && eqb a j)
             ∙ sym (rw (ltb-more b j, ltb-more a j, next (eqb a n) (ltb b j) (eqb b j) (f b) (here j b t), next (eqb b n) (ltb a j) (eqb a j) (f a) (here j a t)));
       }
 
   over : (j b : ℕ) → f j ≡ false → ltb b j && f b ≡ (ltb b j || eqb b j) && f b
-  over j b t = elim (ℕ-discrete b j) [ yes e ↦ rw (e, t) (both (ltb j j) (eqb j j)) | no e ↦ rw (ne-eqb b j e, or-none (ltb b j)) ]
+  over j b t = elim (ℕ-discrete b j) [ yes e ↦ rw (e, t) (both (ltb j j) (eqb j j)) | no e ↦ rw (ne-eqb b j e, or-false (ltb b j)) ]
     where
       both : (x y : Bool) → x && false ≡ (x || y) && false
       both true y = refl

@@ -1,18 +1,15 @@
--- The search over the tables that the code has: the goal met at a place, the next place, the end; and the queue before the first.
+-- The search over the tables that the code has: the goal met at a place, the next place, the end.
 use Prim.Native.Nat.{ℕ, zero, suc, _+_, _-_, _<_, _≤_}
 use mathlib.Core.Bool.{Bool, true, false}
 use mathlib.Core.List.{List}
-use mathlib.Core.Path.{_≡_, refl, sym, _∙_, ap}
+use mathlib.Core.Path.{_≡_, refl, _∙_, ap}
 use native.Mathlib.Omega.{arith}
 use borrow.Author.Tests.{lt-ltb, le-ltb}
-use lib.ListN.{length, getD, replicate}
-use Rattle.legs.proofs.Square.{cleared}
-use Rattle.roadmap.specs.View.{spanOf}
+use lib.ListN.{length, getD}
 use Rattle.roadmap.proofs.Span.{span-long, span-get}
-use Rattle.search.specs.Search.{Place, placeAt, queuedOf, pushOf, nothing, here, searchOf}
-use Rattle.search.specs.Queue.{queueOf, countOf, Queue}
-use Rattle.search.proofs.Queues.{count-le}
-use Rattle.search.proofs.Trees.{placeIn}
+use Rattle.queue.specs.Places.{Place, pushOf}
+use Rattle.queue.specs.Queue.{placeIn, queueOf}
+use Rattle.search.specs.Search.{placeAt, nothing, here, searchOf}
 
 queue-long : (order from : List ℕ) (n : ℕ) → length (queueOf order from n) ≡ n
 unfolding queueOf
@@ -23,10 +20,6 @@ unfolding queueOf placeAt
 place-is order from n p h =
     let e : 0 + p ≡ p = omega arith in
     ap (λ (x : Place). x .number) (span-get 0 n (placeIn order from) p (record { number = 0; from = 0 }) h ∙ ap (placeIn order from) e)
-
--- there is room for each milestone once
-pub queue-few : (top : ℕ) (marks : List Bool) (seen order from : List ℕ) (n : ℕ) → Queue top marks seen order from n → n ≤ 256
-queue-few top marks seen order from n queue = omega (arith, count-le marks, queue .marked, queue .count)
 
 module _ (goal : ℕ → Bool) (next : ℕ → List ℕ) (order from : List ℕ) (n p : ℕ) where
   abbrev q : List Place
@@ -52,31 +45,3 @@ module _ (goal : ℕ → Bool) (next : ℕ → List ℕ) (order from : List ℕ)
   unfolding searchOf
   search-end zero h = refl
   search-end (suc fuel) h = rw (queue-long order from n, le-ltb p n h)
-
--- the empty queue
-zeros : (k v : ℕ) → getD (replicate k false) v false ≡ false
-zeros zero v = refl
-zeros (suc k) zero = refl
-zeros (suc k) (suc v) = zeros k v
-
-no-count : (k : ℕ) → countOf (replicate k false) ≡ 0
-unfolding countOf
-no-count zero = refl
-no-count (suc k) = no-count k
-
-none : (p : ℕ) → p < 0 → ⊥
-none p h = omega arith
-
-pub no-queue : (top : ℕ) → Queue top (replicate 256 false) (replicate 4 0) (replicate 256 0) (replicate 256 0) 0
-unfolding queueOf spanOf queuedOf
-no-queue top =
-    record {
-      marked = refl;
-      packed = refl;
-      ordered = refl;
-      backed = refl;
-      is = λ v h. zeros 256 v;
-      same = λ v h. cleared 4 0 v ∙ sym (zeros 256 v);
-      count = no-count 256;
-      low = λ p h. absurd (none p h);
-    }

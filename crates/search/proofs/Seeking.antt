@@ -18,11 +18,12 @@ use Rattle.state.specs.Rows.{rowAt}
 use Rattle.roadmap.specs.View.{spanOf, viewOf}
 use Rattle.roadmap.proofs.Span.{span-map, span-same}
 use Rattle.roadmap.proofs.View.{view-at, view-flags}
-use Rattle.search.specs.Search.{numbersOf, connectionsOf, neighboursOf, Place, pushOf, Found, nothing, here, searchOf}
+use Rattle.queue.specs.Places.{numbersOf, Place, pushOf}
+use Rattle.queue.specs.Queue.{placeIn, queueOf, Queue, Pushed}
+use Rattle.queue.proofs.Queues.{queue-few}
+use Rattle.search.specs.Search.{connectionsOf, neighboursOf, Found, nothing, here, searchOf}
 use Rattle.search.specs.Query.{goalOf, soughtOf, treeOf, routeOf, queryOf}
-use Rattle.search.specs.Queue.{queueOf, Queue, Pushed}
-use Rattle.search.proofs.Breadth.{queue-few, search-goal, search-next, search-end}
-use Rattle.search.proofs.Trees.{placeIn}
+use Rattle.search.proofs.Breadth.{search-goal, search-next, search-end}
 
 module _ (goal : Goal) (az el feed : List Float) (legs : List ℕ) (count : ℕ) where
   abbrev pub ms : List Milestone

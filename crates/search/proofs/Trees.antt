@@ -3,28 +3,17 @@ use Prim.Native.Nat.{ℕ, _+_, _<_}
 use mathlib.Core.List.{List, [], _∷_, _++_}
 use mathlib.Core.Path.{_≡_, refl, sym, _∙_, ap}
 use native.Mathlib.Omega.{arith}
-use native.Mathlib.Numerals.{add-one}
 use lib.ListN.{getD}
 use Rattle.state.specs.declared.State.{State}
 use Rattle.tree.specs.Table.{Nodes, nodesIn, nodesOf, grownOf, rootOf, rootedOf}
 use Rattle.tree.specs.declared.Tree.{Tree}
 use Rattle.tree.proofs.Append.{Sized, putOf, put-sized, put-grows, rooted-is}
 use Rattle.roadmap.specs.View.{spanOf}
-use Rattle.roadmap.proofs.Span.{span-snoc}
 use Rattle.roadmap.proofs.Rows.{map-snoc}
-use Rattle.search.specs.Search.{Place}
+use Rattle.queue.specs.Places.{Place}
+use Rattle.queue.specs.Queue.{placeIn, queueOf}
+use Rattle.queue.proofs.Queues.{queue-more}
 use Rattle.search.specs.Query.{treeOf}
-use Rattle.search.specs.Queue.{queueOf}
-
--- a place of two columns
-abbrev pub placeIn : List ℕ → List ℕ → ℕ → Place
-placeIn order from p = record { number = getD order p 0; from = getD from p 0 }
-
-queue-more : (order from : List ℕ) (k : ℕ) → queueOf order from (k + 1) ≡ queueOf order from k ++ (placeIn order from k ∷ [])
-unfolding queueOf
-queue-more order from k =
-    let e : 0 + k ≡ k = omega arith in
-    rw (add-one k) (span-snoc 0 k (placeIn order from) ∙ ap (λ (j : ℕ). spanOf 0 k (placeIn order from) ++ (placeIn order from j ∷ [])) e)
 
 module _ (start : State) (at : ℕ → State) where
   tree-root : (order from : List ℕ) → rootOf start ≡ treeOf start at (queueOf order from 0)

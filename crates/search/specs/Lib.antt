@@ -1,3 +1,2 @@
 pub mod Search
 pub mod Query
-pub mod Queue

@@ -1,9 +1,9 @@
 -- Document 01, "PRM query", the route: start state, then milestones in order. "Sizes and answers": first 3 x count numbers written, rest kept.
-use Prim.Native.Nat.{ℕ, _+_}
+use Prim.Native.Nat.{ℕ, _+_, _<_}
 use mathlib.Core.Bool.{Bool}
 use mathlib.Core.List.{List, [], _∷_, map}
 use mathlib.Core.Path.{_≡_}
-use lib.ListN.{length}
+use lib.ListN.{length, getD}
 use lib.Ieee.{Float}
 use Rattle.fields.specs.Satisfied.{satisfiedOf}
 use Rattle.state.specs.declared.State.{State}
@@ -14,7 +14,8 @@ use Rattle.tree.specs.Table.{Nodes}
 use Rattle.route.specs.Path.{pathOf}
 use Rattle.route.specs.Written.{writtenOf}
 use Rattle.roadmap.specs.Map.{Milestone, milestoneAt}
-use Rattle.search.specs.Search.{connectionsOf, neighboursOf, Place, pushOf, Found, nothing, here, searchOf}
+use Rattle.queue.specs.Places.{Place, pushOf}
+use Rattle.search.specs.Search.{connectionsOf, neighboursOf, Found, nothing, here, searchOf}
 
 -- whether the milestone i satisfies the goal
 unfoldable pub goalOf : Goal → List Milestone → ℕ → Bool
@@ -24,6 +25,10 @@ goalOf goal ms i = satisfiedOf goal (milestoneAt ms i .at)
 unfoldable pub soughtOf : Limits → Float → List KeepOut → Float → State → Goal → List Milestone → Found
 soughtOf limits segment ks radius start goal ms =
     searchOf 256 (goalOf goal ms) (neighboursOf ms) (pushOf 0 [] (connectionsOf limits segment ks radius start ms)) 0
+
+-- each of the first n is a milestone's number
+abbrev pub Numbers : ℕ → List ℕ → Type 0
+Numbers n order = (p : ℕ) → p < n → getD order p 0 < 256
 
 -- The queue as a tree: its root is the start, and the place p is the node p + 1, under that from which it was reached. A root's parent is
 -- 512, no node's number.

@@ -12,25 +12,28 @@ mul-at c = search needs
 add-at : tie.Need-add-at
 add-at c = search needs
 
-mul-legs : tie.Need-mul-legs
-mul-legs c = search needs
+mul-rows : tie.Need-mul-rows
+mul-rows c = search needs
 
-element-copy-out-legs : tie.Need-element-copy-out-legs
-element-copy-out-legs c = search needs
+slice-read-rows : tie.Need-slice-read-rows
+slice-read-rows c = search needs
 
-shl-legs : tie.Need-shl-legs
-shl-legs c = search needs
+shl-rows : tie.Need-shl-rows
+shl-rows c = search needs
 
-mul-legs-2 : tie.Need-mul-legs-2
-mul-legs-2 c = search needs
+mul-rows-2 : tie.Need-mul-rows-2
+mul-rows-2 c = search needs
 
-element-write-legs : tie.Need-element-write-legs
-element-write-legs c = search needs
+slice-write-rows : tie.Need-slice-write-rows
+slice-write-rows c = search needs
+
+same-length : tie.Need-same-length
+same-length c = search needs
 
 returns : tie.Need-returns
 returns c =
     let s = c .before in
-    record { long = simp length-set; is = λ a b ha hb. mark-is (s .args .legs .now) (s .args .i) (s .args .j) (omega (arith, s .pre .2)) (s .pre .1) a b hb }
+    record { long = simp length-set; is = λ a b ha hb. mark-is (s .args .rows .now) (s .args .i) (s .args .j) (omega (arith, s .pre .2)) (s .pre .1) a b hb }
 
 pub mark-spec : {M : Type 1} → statement M
 mark-spec =
@@ -38,9 +41,10 @@ mark-spec =
     (tie.spec
     mul-at
     add-at
-    mul-legs
-    element-copy-out-legs
-    shl-legs
-    mul-legs-2
-    element-write-legs
+    mul-rows
+    slice-read-rows
+    shl-rows
+    mul-rows-2
+    slice-write-rows
+    same-length
     returns)

@@ -9,7 +9,7 @@ use Rattle.tree.specs.Table.{Nodes}
 use Rattle.route.specs.Path.{pathOf}
 use Rattle.route.specs.Written.{writtenOf}
 use Rattle.state.specs.Rows.{rowAt}
-use Rattle.search.specs.Queue.{Numbers}
+use Rattle.search.specs.Query.{Numbers}
 use Rattle.search.proofs.Trees.{Growing, growing-starts, growing-more, grown-all}
 use Rattle.search.proofs.write.Statement.{statement}
 use Rattle.search.proofs.write.Tie as tie

@@ -1,13 +1,13 @@
--- `search::spread` meets its contract.
+-- `queue::spread` meets its contract.
 use Prim.Native.Nat.{_-_, _≤_, _<_}
-use mathlib.Core.Bool.{true}
+use mathlib.Core.Bool.{true, and-eq-true-iff}
 use mathlib.Core.Path.{_≡_}
 use native.Mathlib.Omega.{arith}
 use borrow.Author.Needs.{needs}
 use Rattle.legs.specs.Bits.{legAt, unseenAt}
-use Rattle.search.proofs.Pushing.{and-left, Pushing, pushing-starts, pushing-took, pushing-next, pushing-ends}
-use Rattle.search.proofs.spread.Statement.{statement}
-use Rattle.search.proofs.spread.Tie as tie
+use Rattle.queue.proofs.Pushing.{Pushing, pushing-starts, pushing-took, pushing-next, pushing-ends}
+use Rattle.queue.proofs.spread.Statement.{statement}
+use Rattle.queue.proofs.spread.Tie as tie
 
 abbrev Inv-neighbours : tie.InvT-neighbours
 Inv-neighbours legs u count marks₀ seen₀ order₀ from₀ held f n₀ v₀ marks seen order from n v =
@@ -23,7 +23,7 @@ neighbours-holds : tie.Need-neighbours-holds Inv-neighbours μ-neighbours
 unfolding unseenAt
 neighbours-holds c =
     let first = c .next-unseen .ensures in
-    (pushing-next (pushing-starts _ _ _ _ _ _ _ _ (c .before .before .pre .2)) first, first .within, λ h. and-left _ _ (first .here h))
+    (pushing-next (pushing-starts _ _ _ _ _ _ _ _ (c .before .before .pre .2)) first, first .within, λ h. and-eq-true-iff _ _ .0 (first .here h) .0)
 
 push-requires : tie.Need-push-requires Inv-neighbours μ-neighbours
 push-requires c κs =
@@ -47,7 +47,7 @@ neighbours-again c =
     let following = c .next-unseen2 .ensures in (
       pushing-next (pushing-took (h .inv .0) (turn .neighbours-test .taken) (h .inv .2 (omega arith)) (c .before .before .push .ensures)) following,
       following .within,
-      λ k. and-left _ _ (following .here k),
+      λ k. and-eq-true-iff _ _ .0 (following .here k) .0,
     )
 
 returns : tie.Need-returns Inv-neighbours μ-neighbours

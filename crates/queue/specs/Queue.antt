@@ -6,21 +6,20 @@ use mathlib.Core.Path.{_≡_}
 use lib.ListN.{getD, length}
 use Rattle.legs.specs.Bits.{legAt}
 use Rattle.roadmap.specs.View.{spanOf}
-use Rattle.search.specs.Search.{Place, queuedOf, pushOf}
+use Rattle.queue.specs.Places.{Place, queuedOf, pushOf}
 
--- the first n places of two columns
+-- a place of two columns, and the first n of them
+abbrev pub placeIn : List ℕ → List ℕ → ℕ → Place
+placeIn order from p = record { number = getD order p 0; from = getD from p 0 }
+
 unfoldable pub queueOf : List ℕ → List ℕ → ℕ → List Place
-queueOf order from n = spanOf 0 n (λ (p : ℕ). record { number = getD order p 0; from = getD from p 0 })
+queueOf order from n = spanOf 0 n (placeIn order from)
 
 -- how many are marked
 unfoldable pub countOf : List Bool → ℕ
 countOf [] = 0
 countOf (true ∷ bs) = suc (countOf bs)
 countOf (false ∷ bs) = countOf bs
-
--- each of the first n is a milestone's number
-abbrev pub Numbers : ℕ → List ℕ → Type 0
-Numbers n order = (p : ℕ) → p < n → getD order p 0 < 256
 
 -- marks and columns hold a queue of milestones below top
 pub record Queue (top : ℕ) (marks : List Bool) (seen order from : List ℕ) (n : ℕ) : Type 0 where

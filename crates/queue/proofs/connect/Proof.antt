@@ -1,4 +1,4 @@
--- `search::connect` meets its contract.
+-- `queue::connect` meets its contract.
 use Prim.Native.Nat.{ℕ, _-_, _≤_}
 use mathlib.Core.Logic.{⊎-elim}
 use mathlib.Core.Path.{_∙_}
@@ -8,9 +8,9 @@ use Rattle.columns.specs.Columns.{columnsOf}
 use Rattle.construct.specs.Construct.{joinedOf}
 use Rattle.state.specs.Rows.{rowAt}
 use Rattle.construct.proofs.Joined.{joined-far, joined-near}
-use Rattle.search.proofs.Pushing.{Pushing, pushing-starts, pushing-took, pushing-passed, pushing-ends}
-use Rattle.search.proofs.connect.Statement.{statement}
-use Rattle.search.proofs.connect.Tie as tie
+use Rattle.queue.proofs.Pushing.{Pushing, pushing-starts, pushing-took, pushing-passed, pushing-ends}
+use Rattle.queue.proofs.connect.Statement.{statement}
+use Rattle.queue.proofs.connect.Tie as tie
 
 abbrev Inv-milestones : tie.InvT-milestones
 Inv-milestones limits segment kinds numbers keep-outs radius start az el feed count marks₀ seen₀ order₀ from₀ n₀ v₀ marks seen order from n v =

@@ -1,6 +1,6 @@
 -- A walk over a row of flags that queues the numbers of those that are set: what holds when the number v is reached, and what a turn does.
 use Prim.Native.Nat.{ℕ, zero, suc, _+_, _-_, _≤_, _<_}
-use mathlib.Core.Bool.{Bool, true, false, not, _&&_}
+use mathlib.Core.Bool.{Bool, true, false, not, _&&_, true≢false}
 use mathlib.Core.List.{List, [], _∷_}
 use mathlib.Core.Path.{_≡_, refl, sym, _∙_, ap}
 use native.Mathlib.Omega.{arith}
@@ -8,17 +8,10 @@ use native.Mathlib.Decide.{decLt}
 use Rattle.legs.specs.Bits.{legAt}
 use Rattle.legs.specs.Next.{Next}
 use Rattle.roadmap.specs.View.{spanOf}
-use Rattle.search.specs.Search.{numbersOf, Place, pushOf}
-use Rattle.search.specs.Queue.{queueOf, Queue, Pushed}
-use Rattle.search.proofs.Queues.{push-next, push-yes}
-use Rattle.search.proofs.Numbers.{numbers-yes, numbers-not, numbers-end}
-
-true-false : true ≡ false → ⊥
-true-false e = let z : _≡_ {A = ℕ} 0 1 = cc in omega arith
-
-pub and-left : (a b : Bool) → a && b ≡ true → a ≡ true
-and-left true b e = refl
-and-left false b e = e
+use Rattle.queue.specs.Places.{numbersOf, Place, pushOf}
+use Rattle.queue.specs.Queue.{queueOf, Queue, Pushed}
+use Rattle.queue.proofs.Queues.{push-next, push-yes}
+use Rattle.queue.proofs.Numbers.{numbers-yes, numbers-not, numbers-end}
 
 -- the numbers of those from v on that are set
 abbrev pub left : (ℕ → Bool) → ℕ → ℕ → List ℕ
@@ -78,7 +71,7 @@ module _ {row : ℕ → Bool} {count f : ℕ} {order₀ from₀ : List ℕ} {n�
       by-row true r true s e l =
           ap (pushOf f q) (numbers-yes row count u l r) ∙ push-next f q u (left row count (u + 1))
           ∙ ap (λ (x : List Place). pushOf f x (left row count (u + 1))) (push-yes f q u (sym (h .queue .is u small) ∙ sym (h .queue .same u small) ∙ s))
-      by-row true r false s e l = absurd (true-false e)
+      by-row true r false s e l = absurd (true≢false e)
 
   skips : (k u : ℕ) → u + k ≤ 256 → ((j : ℕ) → u ≤ j → j < u + k → row j && not (legAt seen 0 j) ≡ false) →
       pushOf f q (left row count u) ≡ pushOf f q (left row count (u + k))

@@ -5,7 +5,7 @@ use mathlib.Core.List.{[], _∷_}
 use mathlib.Core.Path.{_≡_}
 use native.Mathlib.Omega.{arith}
 use Rattle.roadmap.specs.View.{spanOf}
-use Rattle.search.specs.Search.{numbersOf}
+use Rattle.queue.specs.Places.{numbersOf}
 
 module _ (row : ℕ → Bool) (count v : ℕ) where
   pub numbers-yes : v < count → row v ≡ true → numbersOf v (spanOf v (count - v) row) ≡ v ∷ numbersOf (v + 1) (spanOf (v + 1) (count - (v + 1)) row)
