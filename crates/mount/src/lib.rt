@@ -11,6 +11,7 @@ ghost use Rattle.motion.specs.Valid.{validOf};
 ghost use Rattle.motion.specs.Points.{stepsOf};
 ghost use Rattle.motion.specs.Accepts.{acceptsOf};
 ghost use Rattle.mount.specs.Good.{goodMount};
+ghost use Rattle.mount.specs.None.{noMount};
 
 pub struct Mount {
     pub limits: Limits,
@@ -19,6 +20,25 @@ pub struct Mount {
 }
 
 impl Mount {
+    // For what is not set up yet: limits of no width, and no keep-out.
+    pub fn none() -> Mount
+        ensures { λ r. ⌜ r ≡ noMount ⌝ }
+    {
+        let zero = State {
+            az: 0.0,
+            el: 0.0,
+            feed: 0.0,
+        };
+        Mount {
+            limits: Limits {
+                low: zero,
+                high: zero,
+            },
+            segment: Length { value: 1.0 },
+            table: KeepOuts::new(),
+        }
+    }
+
     pub fn is_good(self) -> bool
         ensures { λ r. ⌜ r ≡ goodMount self ⌝ }
     {

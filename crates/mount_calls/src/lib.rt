@@ -1,7 +1,5 @@
 // The calls on the mount alone: its setup, and the six calls on states.
 use answer::Answer;
-use fields::Length;
-use fields::Limits;
 use grammar::Verb;
 use keep_out_table::KeepOuts;
 use motion::Steps;
@@ -36,21 +34,9 @@ struct Done {
 pub fn none() -> Kept
     ensures { λ r. ⌜ r ≡ noneOf ⌝ }
 {
-    let zero = State {
-        az: 0.0,
-        el: 0.0,
-        feed: 0.0,
-    };
     Kept {
         is_ready: false,
-        mount: Mount {
-            limits: Limits {
-                low: zero,
-                high: zero,
-            },
-            segment: Length { value: 1.0 },
-            table: KeepOuts::new(),
-        },
+        mount: Mount::none(),
     }
 }
 

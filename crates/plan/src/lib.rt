@@ -67,14 +67,7 @@ impl Setting {
         };
         Setting {
             ready: false,
-            mount: Mount {
-                limits: Limits {
-                    low: zero,
-                    high: zero,
-                },
-                segment: Length { value: 1.0 },
-                table: KeepOuts::new(),
-            },
+            mount: Mount::none(),
             reach: Length { value: 1.0 },
             goal: Goal {
                 centre: zero,
