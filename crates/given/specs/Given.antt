@@ -7,6 +7,7 @@ use Rattle.state.specs.declared.State.{State}
 use Rattle.fields.specs.declared.Length.{Length}
 use Rattle.fields.specs.declared.Goal.{Goal}
 use Rattle.fields.specs.declared.Limits.{Limits}
+use Rattle.given.specs.declared.Fields.{Fields}
 use Rattle.keep_out.specs.declared.KeepOut.{KeepOut}
 use Rattle.keep_out.specs.declared.KeepOut.the-variants.{Floor}
 use Rattle.keep_out_table.specs.declared.KeepOuts.{KeepOuts}
@@ -33,6 +34,10 @@ limitsIn l =
       low = record { az = numberAt l 0; el = numberAt l 2; feed = numberAt l 4 };
       high = record { az = numberAt l 1; el = numberAt l 3; feed = numberAt l 5 };
     }
+
+-- document 01, "The mount", setup's fields in order: limits, segment length, max_distance or connection_radius, start, goal
+abbrev pub fieldsIn : List Float → Fields
+fieldsIn l = record { limits = limitsIn l; segment = lengthAt l 6; reach = lengthAt l 7; start = stateAt l 8; goal = goalAt l 11 }
 
 -- the keep-out in the table's first place; it has 32 places, so that the default is never read
 unfoldable pub firstIn : KeepOuts → KeepOut

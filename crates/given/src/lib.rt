@@ -1,4 +1,4 @@
-// What the numbers of a line stand for. The place is that of the first number.
+// What the numbers of a script's line, or of a host's setup, stand for. The place is that of the first number.
 use fields::Goal;
 use fields::Length;
 use fields::Limits;
@@ -7,7 +7,7 @@ use keep_out_table::KeepOuts;
 use state::State;
 ghost use mathlib.Core.Path.{_≡_};
 ghost use Prim.Native.Nat.{_+_};
-ghost use Rattle.given.specs.Given.{numberAt, lengthAt, stateAt, goalAt, limitsIn, firstIn};
+ghost use Rattle.given.specs.Given.{numberAt, lengthAt, stateAt, goalAt, limitsIn, fieldsIn, firstIn};
 
 // The number at a place, and past the last one a NaN, which no call takes.
 pub fn number(numbers: &[f64], i: usize) -> f64
@@ -72,6 +72,32 @@ pub fn limits(numbers: &[f64]) -> Limits
         feed: number(numbers, 5),
     };
     Limits { low, high }
+}
+
+// What the numbers of a setup stand for, in document 01's order. The eighth is the reach of a motion: max_distance, or PRM's connection_radius.
+pub struct Fields {
+    pub limits: Limits,
+    pub segment: Length,
+    pub reach: Length,
+    pub start: State,
+    pub goal: Goal,
+}
+
+pub fn fields_in(numbers: &[f64]) -> Fields
+    ensures { λ r. ⌜ r ≡ fieldsIn (now (numbers .entry)) ⌝ }
+{
+    let limits = limits(numbers);
+    let segment = length(numbers, 6);
+    let reach = length(numbers, 7);
+    let start = state(numbers, 8);
+    let goal = goal(numbers, 11);
+    Fields {
+        limits,
+        segment,
+        reach,
+        start,
+        goal,
+    }
 }
 
 // The keep-out of a line whose row asks for one: it comes first in the table.

@@ -10,7 +10,7 @@ use Rattle.answer.specs.Number.{numberOf}
 use Rattle.answer.specs.declared.Answer.the-variants.{BadInput}
 use Rattle.keep_out_table.specs.declared.KeepOuts.{KeepOuts}
 use Rattle.tree.specs.Table.{Nodes}
-use Rattle.given.specs.Given.{lengthAt, stateAt, goalAt, limitsIn}
+use Rattle.given.specs.Given.{fieldsIn}
 use Rattle.listing.specs.Table.{Listed, knownOf}
 use Rattle.plan.specs.Plan.{Plan, Planner, unset}
 use Rattle.plan.specs.Setup.{Told}
@@ -29,12 +29,7 @@ use Rattle.prm.specs.Planner as prm
 use Rattle.prm.specs.Planner.{Given}
 use Rattle.parking.specs.Park.{buildOf}
 use Rattle.parking.specs.Chart.{chartOf}
-use Rattle.host.specs.declared.Fields.{Fields}
 use Rattle.host.specs.declared.Report.{Report}
-
--- document 01, "The mount", setup's fields in order: limits, segment length, max_distance or connection_radius, start, goal
-abbrev pub fieldsIn : List Float → Fields
-fieldsIn l = record { limits = limitsIn l; segment = lengthAt l 6; reach = lengthAt l 7; start = stateAt l 8; goal = goalAt l 11 }
 
 -- a planner that is set up and solves, where the kinds are known; a refusal keeps the route
 unfoldable pub callWith : {P A : Type 0} → (Planner P A → List Float → List Float → Outcome P A) → Bool → Told P A → List Float → List Float → Outcome P A

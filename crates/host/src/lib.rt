@@ -1,14 +1,11 @@
 // The planners for a host in C or Rust, and for the benchmark: a setup and a solve, or a roadmap and its queries, in one call on plain numbers.
-use fields::Goal;
 use fields::Length;
-use fields::Limits;
 use prm::Prm;
 use rrt::Rrt;
 use rrt_connect::RrtConnect;
 use rrt_star::RrtStar;
-use state::State;
 ghost use mathlib.Core.Path.{_≡_};
-ghost use Rattle.host.specs.Call.{fieldsIn, Called, rrtCall, connectCall, starCall, prmCall};
+ghost use Rattle.host.specs.Call.{Called, rrtCall, connectCall, starCall, prmCall};
 
 // The answer's number in document 01's table, the route's number of states, and the samples taken.
 #[repr(C)]
@@ -20,32 +17,6 @@ pub struct Report {
 
 // The number of bad input: a kind that is none of the three.
 const BAD_INPUT: usize = 2;
-
-// What the fifteen numbers of a setup stand for, in document 01's order. The eighth is the reach of a motion: max_distance, or PRM's connection_radius.
-struct Fields {
-    limits: Limits,
-    segment: Length,
-    reach: Length,
-    start: State,
-    goal: Goal,
-}
-
-fn fields_in(setup: &[f64; 15]) -> Fields
-    ensures { λ r. ⌜ r ≡ fieldsIn (now (setup .entry)) ⌝ }
-{
-    let limits = given::limits(setup);
-    let segment = given::length(setup, 6);
-    let reach = given::length(setup, 7);
-    let start = given::state(setup, 8);
-    let goal = given::goal(setup, 11);
-    Fields {
-        limits,
-        segment,
-        reach,
-        start,
-        goal,
-    }
-}
 
 fn refused(answer: usize) -> Report
     ensures { λ r. ⌜ r ≡ record { answer = answer; count = 0; taken = 0 } ⌝ }
@@ -69,7 +40,7 @@ pub extern "C" fn rindmosaic_rrt<'a>(
 ) -> Report
     ensures { λ r. ⌜ Called (rrtCall (now (setup .entry)) (now (kinds .entry)) «keep_outs» (now (samples .entry)) (now (route .entry))) (now (kinds .entry)) (now (numbers .entry)) «keep_outs» r (now (route .exit)) ⌝ }
 {
-    let f = fields_in(setup);
+    let f = given::fields_in(setup);
     let table = listing::table_of(kinds, numbers, keep_outs);
     if listing::are_known(kinds, keep_outs) {
         let made = Rrt::new().setup(f.limits, f.segment, f.reach, f.start, f.goal, table);
@@ -101,7 +72,7 @@ pub extern "C" fn rindmosaic_connect<'a>(
 ) -> Report
     ensures { λ r. ⌜ Called (connectCall (now (setup .entry)) (now (kinds .entry)) «keep_outs» (now (samples .entry)) (now (route .entry))) (now (kinds .entry)) (now (numbers .entry)) «keep_outs» r (now (route .exit)) ⌝ }
 {
-    let f = fields_in(setup);
+    let f = given::fields_in(setup);
     let table = listing::table_of(kinds, numbers, keep_outs);
     if listing::are_known(kinds, keep_outs) {
         let made = RrtConnect::new().setup(f.limits, f.segment, f.reach, f.start, f.goal, table);
@@ -134,7 +105,7 @@ pub extern "C" fn rindmosaic_star<'a>(
 ) -> Report
     ensures { λ r. ⌜ Called (starCall (now (setup .entry)) «search_radius» (now (kinds .entry)) «keep_outs» (now (samples .entry)) (now (route .entry))) (now (kinds .entry)) (now (numbers .entry)) «keep_outs» r (now (route .exit)) ⌝ }
 {
-    let f = fields_in(setup);
+    let f = given::fields_in(setup);
     let table = listing::table_of(kinds, numbers, keep_outs);
     let radius = Length {
         value: search_radius,
@@ -181,7 +152,7 @@ pub extern "C" fn rindmosaic_prm<'a>(
 ) -> Report
     ensures { λ r. ⌜ Called (prmCall (now (setup .entry)) (now (kinds .entry)) (now (numbers .entry)) «keep_outs» added (now (samples .entry)) queries (now (route .entry))) (now (kinds .entry)) (now (numbers .entry)) «keep_outs» r (now (route .exit)) ⌝ }
 {
-    let f = fields_in(setup);
+    let f = given::fields_in(setup);
     let table = listing::table_of(kinds, numbers, keep_outs);
     if listing::are_known_with(kinds, keep_outs, added) {
         let made = Prm::new().setup(f.limits, f.segment, f.reach, f.start, f.goal, table);

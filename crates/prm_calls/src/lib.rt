@@ -15,12 +15,8 @@ pub struct Called {
 
 // The connection radius stands where a tree planner has max_distance.
 fn setup(out: &mut [u8], planner: Prm, numbers: &[f64], table: KeepOuts) -> Prm {
-    let limits = given::limits(numbers);
-    let segment = given::length(numbers, 6);
-    let connection_radius = given::length(numbers, 7);
-    let start = given::state(numbers, 8);
-    let goal = given::goal(numbers, 11);
-    let done = planner.setup(limits, segment, connection_radius, start, goal, table);
+    let f = given::fields_in(numbers);
+    let done = planner.setup(f.limits, f.segment, f.reach, f.start, f.goal, table);
     let answer = done.answer;
     replies::answered(out, answer, 0);
     done.planner

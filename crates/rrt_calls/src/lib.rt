@@ -13,12 +13,8 @@ pub struct Called {
 }
 
 fn setup(out: &mut [u8], planner: Rrt, numbers: &[f64], table: KeepOuts) -> Rrt {
-    let limits = given::limits(numbers);
-    let segment = given::length(numbers, 6);
-    let max_distance = given::length(numbers, 7);
-    let start = given::state(numbers, 8);
-    let goal = given::goal(numbers, 11);
-    let done = planner.setup(limits, segment, max_distance, start, goal, table);
+    let f = given::fields_in(numbers);
+    let done = planner.setup(f.limits, f.segment, f.reach, f.start, f.goal, table);
     let answer = done.answer;
     replies::answered(out, answer, 0);
     done.planner

@@ -46,7 +46,7 @@ returns c =
     let table = known .before in
     let fields = table .before in
     let is = rw (fields .fields-in .ensures) at (made .setup .ensures) in
-    call-reported (chartOf (buildOf _ _ _ _) _) (prmTold (now (fields .before .before .before .args .setup))) _ _ _ _ _ _ (table .table-of .ensures) _ (known .are-known-with .ensures) (made .before .before .if1 .taken) _ (made .before .new .ensures)
+    call-reported (chartOf (buildOf _ _ _ _) _) (prmTold (now (fields .before .before .before .before .args .setup))) _ _ _ _ _ _ (table .table-of .ensures) _ (known .are-known-with .ensures) (made .before .before .if1 .taken) _ (made .before .new .ensures)
     (answeredOf (made .setup .result)) is _ (number .number .ensures) (chart .before .before .if2 .taken) _ _ (charted _ _ _ (chart .chart .ensures) _ (c .number2 .ensures))
 
 refused-requires : tie.Need-refused-requires
@@ -61,7 +61,7 @@ returns-2 c =
     let table = known .before in
     let fields = table .before in
     let is = rw (fields .fields-in .ensures) at (made .setup .ensures) in
-    call-refused (chartOf (buildOf _ _ _ _) _) (prmTold (now (fields .before .before .before .args .setup))) _ _ _ _ _ _ (table .table-of .ensures) _ (known .are-known-with .ensures) (made .before .before .if1 .taken) _ (made .before .new .ensures)
+    call-refused (chartOf (buildOf _ _ _ _) _) (prmTold (now (fields .before .before .before .before .args .setup))) _ _ _ _ _ _ (table .table-of .ensures) _ (known .are-known-with .ensures) (made .before .before .if1 .taken) _ (made .before .new .ensures)
     (answeredOf (made .setup .result)) is _ (number .number .ensures) (c .before .if2 .left) _ (c .refused .ensures)
 
 refused-requires-2 : tie.Need-refused-requires-2
@@ -72,7 +72,7 @@ unfolding prmCall
 returns-3 c =
     let known = c .before .before in
     let table = known .before in
-    call-unknown (chartOf (buildOf _ _ _ _) _) (prmTold (now (table .before .before .before .before .args .setup))) _ _ _ _ _ _ (table .table-of .ensures) _ (known .are-known-with .ensures) (c .before .if1 .left) _ (c .refused2 .ensures)
+    call-unknown (chartOf (buildOf _ _ _ _) _) (prmTold (now (table .before .before .before .before .before .args .setup))) _ _ _ _ _ _ (table .table-of .ensures) _ (known .are-known-with .ensures) (c .before .if1 .left) _ (c .refused2 .ensures)
 
 pub rindmosaic-prm-spec : {M : Type 1} → statement M
 rindmosaic-prm-spec =

@@ -45,7 +45,7 @@ returns c =
     let table = known .before in
     let fields = table .before in
     let is = rw (fields .fields-in .ensures) at (made .setup .ensures) in
-    call-solved solveOf (rrtTold (now (fields .before .before .before .args .setup))) _ _ _ _ _ _ (table .table-of .ensures) _ (known .are-known .ensures) (made .before .before .if1 .taken) _ (made .before .new .ensures)
+    call-solved solveOf (rrtTold (now (fields .before .before .before .before .args .setup))) _ _ _ _ _ _ (table .table-of .ensures) _ (known .are-known .ensures) (made .before .before .if1 .taken) _ (made .before .new .ensures)
     (answeredOf (made .setup .result)) is _ (number .number .ensures) (solve .before .before .if2 .taken) (solvedOf (solve .solve .result) _) (solve .solve .ensures) _ (c .number2 .ensures)
 
 refused-requires : tie.Need-refused-requires
@@ -60,7 +60,7 @@ returns-2 c =
     let table = known .before in
     let fields = table .before in
     let is = rw (fields .fields-in .ensures) at (made .setup .ensures) in
-    call-refused solveOf (rrtTold (now (fields .before .before .before .args .setup))) _ _ _ _ _ _ (table .table-of .ensures) _ (known .are-known .ensures) (made .before .before .if1 .taken) _ (made .before .new .ensures)
+    call-refused solveOf (rrtTold (now (fields .before .before .before .before .args .setup))) _ _ _ _ _ _ (table .table-of .ensures) _ (known .are-known .ensures) (made .before .before .if1 .taken) _ (made .before .new .ensures)
     (answeredOf (made .setup .result)) is _ (number .number .ensures) (c .before .if2 .left) _ (c .refused .ensures)
 
 refused-requires-2 : tie.Need-refused-requires-2
@@ -71,7 +71,7 @@ unfolding rrtCall
 returns-3 c =
     let known = c .before .before in
     let table = known .before in
-    call-unknown solveOf (rrtTold (now (table .before .before .before .before .args .setup))) _ _ _ _ _ _ (table .table-of .ensures) _ (known .are-known .ensures) (c .before .if1 .left) _ (c .refused2 .ensures)
+    call-unknown solveOf (rrtTold (now (table .before .before .before .before .before .args .setup))) _ _ _ _ _ _ (table .table-of .ensures) _ (known .are-known .ensures) (c .before .if1 .left) _ (c .refused2 .ensures)
 
 pub rindmosaic-rrt-spec : {M : Type 1} → statement M
 rindmosaic-rrt-spec =

@@ -44,7 +44,7 @@ returns c =
     let known = made .before .before .before in
     let table = known .before in
     let fields = table .before in
-    let args = fields .before .before .before .args in
+    let args = fields .before .before .before .before .args in
     let is = rw (fields .fields-in .ensures) at (made .setup .ensures) in
     call-solved solveOf (starTold (now (args .setup)) (args .search-radius)) _ _ _ _ _ _ (table .table-of .ensures) _ (known .are-known .ensures) (made .before .before .if1 .taken) _ (made .before .new .ensures)
     (answeredOf (made .setup .result)) is _ (number .number .ensures) (solve .before .before .if2 .taken) (solvedOf (solve .solve .result) _) (solve .solve .ensures) _ (c .number2 .ensures)
@@ -60,7 +60,7 @@ returns-2 c =
     let known = made .before .before .before in
     let table = known .before in
     let fields = table .before in
-    let args = fields .before .before .before .args in
+    let args = fields .before .before .before .before .args in
     let is = rw (fields .fields-in .ensures) at (made .setup .ensures) in
     call-refused solveOf (starTold (now (args .setup)) (args .search-radius)) _ _ _ _ _ _ (table .table-of .ensures) _ (known .are-known .ensures) (made .before .before .if1 .taken) _ (made .before .new .ensures)
     (answeredOf (made .setup .result)) is _ (number .number .ensures) (c .before .if2 .left) _ (c .refused .ensures)
@@ -73,7 +73,7 @@ unfolding starCall
 returns-3 c =
     let known = c .before .before in
     let table = known .before in
-    let args = table .before .before .before .before .args in
+    let args = table .before .before .before .before .before .args in
     call-unknown solveOf (starTold (now (args .setup)) (args .search-radius)) _ _ _ _ _ _ (table .table-of .ensures) _ (known .are-known .ensures) (c .before .if1 .left) _ (c .refused2 .ensures)
 
 pub rindmosaic-star-spec : {M : Type 1} → statement M

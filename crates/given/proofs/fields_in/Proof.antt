@@ -1,7 +1,7 @@
--- `host::fields_in` meets its contract.
+-- `given::fields_in` meets its contract.
 use borrow.Author.Needs.{needs}
-use Rattle.host.proofs.fields_in.Statement.{statement}
-use Rattle.host.proofs.fields_in.Tie as tie
+use Rattle.given.proofs.fields_in.Statement.{statement}
+use Rattle.given.proofs.fields_in.Tie as tie
 
 limits-requires : tie.Need-limits-requires
 limits-requires c κs = search needs
@@ -20,10 +20,10 @@ goal-requires c κs = search needs
 
 returns : tie.Need-returns
 returns c =
-    let state = c .before .before in
-    let reach = state .before .before in
-    let segment = reach .before .before in
-    rw (segment .before .before .limits .ensures, segment .length .ensures, reach .length2 .ensures, state .state .ensures, c .goal .ensures)
+    let state = c .before in
+    let reach = state .before in
+    let segment = reach .before in
+    rw (segment .before .limits .ensures, segment .length .ensures, reach .length2 .ensures, state .state .ensures, c .goal .ensures)
 
 pub fields-in-spec : {M : Type 1} → statement M
 fields-in-spec =
