@@ -5,6 +5,9 @@ use output::nodes;
 use output::replies;
 use rrt_connect::RrtConnect;
 use script::Line;
+ghost use mathlib.Core.Path.{_≡_};
+ghost use Rattle.rrt_connect.specs.Planner.{plannerOf};
+ghost use Rattle.connect_calls.specs.Left.{leftBy, setupFrom, keepoutFrom, solveFrom, callOf};
 
 // Whether the call was made, and the planner after it.
 pub struct Called {
@@ -12,7 +15,9 @@ pub struct Called {
     pub planner: RrtConnect,
 }
 
-fn setup(out: &mut [u8], planner: RrtConnect, numbers: &[f64], table: KeepOuts) -> RrtConnect {
+fn setup(out: &mut [u8], planner: RrtConnect, numbers: &[f64], table: KeepOuts) -> RrtConnect
+    ensures { λ r. ⌜ plannerOf r ≡ setupFrom (plannerOf planner) (now (numbers .entry)) table ⌝ }
+{
     let f = given::fields_in(numbers);
     let done = planner.setup(f.limits, f.segment, f.reach, f.start, f.goal, table);
     let answer = done.answer;
@@ -20,7 +25,9 @@ fn setup(out: &mut [u8], planner: RrtConnect, numbers: &[f64], table: KeepOuts) 
     done.planner
 }
 
-fn keepout(out: &mut [u8], planner: RrtConnect, table: KeepOuts) -> RrtConnect {
+fn keepout(out: &mut [u8], planner: RrtConnect, table: KeepOuts) -> RrtConnect
+    ensures { λ r. ⌜ plannerOf r ≡ keepoutFrom (plannerOf planner) table ⌝ }
+{
     let done = planner.add_keep_out(given::keep_out(table));
     let answer = done.answer;
     replies::answered(out, answer, 0);
@@ -28,7 +35,9 @@ fn keepout(out: &mut [u8], planner: RrtConnect, table: KeepOuts) -> RrtConnect {
 }
 
 // The route buffer is the first capacity numbers of a fresh one.
-fn solve(out: &mut [u8], planner: RrtConnect, capacity: usize, samples: &[f64]) -> RrtConnect {
+fn solve(out: &mut [u8], planner: RrtConnect, capacity: usize, samples: &[f64]) -> RrtConnect
+    ensures { λ r. ⌜ plannerOf r ≡ solveFrom (plannerOf planner) capacity (now (samples .entry)) ⌝ }
+{
     let mut buffer = route_buffer::fresh();
     let route = route_buffer::first(&mut buffer, capacity);
     let done = planner.solve(samples, route);
@@ -62,7 +71,9 @@ fn goal_table(out: &mut [u8], planner: RrtConnect) {
 }
 
 // The numbers are all that the line has.
-pub fn call(out: &mut [u8], planner: RrtConnect, line: Line, numbers: &[f64]) -> Called {
+pub fn call(out: &mut [u8], planner: RrtConnect, line: Line, numbers: &[f64]) -> Called
+    ensures { λ r. ⌜ leftBy r ≡ callOf (plannerOf planner) line (now (numbers .entry)) ⌝ }
+{
     let verb = line.verb;
     match verb {
         Verb::Setup => {

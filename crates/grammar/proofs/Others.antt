@@ -7,8 +7,6 @@ use denote.Enum.Declared.{tagOf}
 use lib.ListN.{getD}
 use types.Run.{OneOf}
 use Rattle.grammar.proofs.Verb.{the-type}
-use Rattle.grammar.specs.Rows.{noRow}
-use Rattle.grammar.specs.declared.Row.{Row}
 use Rattle.grammar.specs.declared.Verb.{Verb}
 use Rattle.grammar.specs.declared.Verb.the-variants.{Setup, Keepout, Solve, Construct, Goals, Query, Tables, Distance, Between, Steer, Valid, Steps, Motion, Other}
 
@@ -43,17 +41,17 @@ at-tag Other = refl
 tag-one : (v w : Verb) → tag v ≡ tag w → v ≡ w
 tag-one v w e = sym (at-tag v) ∙ (ap at e ∙ at-tag w)
 
-module _ (row : Verb → Row) (verb : Verb) where
+module _ {B : Type 0} (none : B) (row : Verb → B) (verb : Verb) where
   none-in :
       (v : Verb) (vs : List Verb) →
-      map row (v ∷ vs) ≡ map (λ w. noRow) (v ∷ vs) →
+      map row (v ∷ vs) ≡ map (λ w. none) (v ∷ vs) →
       OneOf (map tag (v ∷ vs)) (tag verb) →
-      noRow ≡ row verb
-  none-in v [] none is = cc (tag-one verb v is)
-  none-in v (w ∷ vs) none (inl is) = cc (tag-one verb v is)
-  none-in v (w ∷ vs) none (inr is) = none-in w vs (cc) is
+      none ≡ row verb
+  none-in v [] same is = cc (tag-one verb v is)
+  none-in v (w ∷ vs) same (inl is) = cc (tag-one verb v is)
+  none-in v (w ∷ vs) same (inr is) = none-in w vs (cc) is
 
-  -- a table with no row for these verbs has none for one of them
-  pub none-for : (vs : List Verb) → map row vs ≡ map (λ w. noRow) vs → OneOf (map tag vs) (tag verb) → noRow ≡ row verb
-  none-for [] none is = absurd is
-  none-for (v ∷ vs) none is = none-in v vs none is
+  -- a table with nothing for these verbs has nothing for one of them
+  pub none-for : (vs : List Verb) → map row vs ≡ map (λ w. none) vs → OneOf (map tag vs) (tag verb) → none ≡ row verb
+  none-for [] same is = absurd is
+  none-for (v ∷ vs) same is = none-in v vs same is

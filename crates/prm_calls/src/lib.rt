@@ -6,6 +6,9 @@ use output::replies;
 use prm::Prm;
 use roadmap::MilestoneAt;
 use script::Line;
+ghost use mathlib.Core.Path.{_≡_};
+ghost use Rattle.prm.specs.Planner.{plannerOf};
+ghost use Rattle.prm_calls.specs.Left.{leftBy, setupFrom, keepoutFrom, constructFrom, goalsFrom, callOf};
 
 // Whether the call was made, and the planner after it.
 pub struct Called {
@@ -14,7 +17,9 @@ pub struct Called {
 }
 
 // The connection radius stands where a tree planner has max_distance.
-fn setup(out: &mut [u8], planner: Prm, numbers: &[f64], table: KeepOuts) -> Prm {
+fn setup(out: &mut [u8], planner: Prm, numbers: &[f64], table: KeepOuts) -> Prm
+    ensures { λ r. ⌜ plannerOf r ≡ setupFrom (plannerOf planner) (now (numbers .entry)) table ⌝ }
+{
     let f = given::fields_in(numbers);
     let done = planner.setup(f.limits, f.segment, f.reach, f.start, f.goal, table);
     let answer = done.answer;
@@ -22,21 +27,27 @@ fn setup(out: &mut [u8], planner: Prm, numbers: &[f64], table: KeepOuts) -> Prm 
     done.planner
 }
 
-fn keepout(out: &mut [u8], planner: Prm, table: KeepOuts) -> Prm {
+fn keepout(out: &mut [u8], planner: Prm, table: KeepOuts) -> Prm
+    ensures { λ r. ⌜ plannerOf r ≡ keepoutFrom (plannerOf planner) table ⌝ }
+{
     let done = planner.add_keep_out(given::keep_out(table));
     let answer = done.answer;
     replies::answered(out, answer, 0);
     done.planner
 }
 
-fn construct(out: &mut [u8], planner: Prm, samples: &[f64]) -> Prm {
+fn construct(out: &mut [u8], planner: Prm, samples: &[f64]) -> Prm
+    ensures { λ r. ⌜ plannerOf r ≡ constructFrom (plannerOf planner) (now (samples .entry)) ⌝ }
+{
     let done = planner.construct_roadmap(samples);
     let answer = done.answer;
     replies::answered(out, answer, done.taken);
     done.planner
 }
 
-fn goals(out: &mut [u8], planner: Prm, numbers: &[f64]) -> Prm {
+fn goals(out: &mut [u8], planner: Prm, numbers: &[f64]) -> Prm
+    ensures { λ r. ⌜ plannerOf r ≡ goalsFrom (plannerOf planner) (now (numbers .entry)) ⌝ }
+{
     let start = given::state(numbers, 0);
     let goal = given::goal(numbers, 3);
     let done = planner.replace_goals(start, goal);
@@ -98,7 +109,9 @@ fn tables(out: &mut [u8], planner: Prm) {
 }
 
 // The numbers are all that the line has.
-pub fn call(out: &mut [u8], planner: Prm, line: Line, numbers: &[f64]) -> Called {
+pub fn call(out: &mut [u8], planner: Prm, line: Line, numbers: &[f64]) -> Called
+    ensures { λ r. ⌜ leftBy r ≡ callOf (plannerOf planner) line (now (numbers .entry)) ⌝ }
+{
     let verb = line.verb;
     match verb {
         Verb::Setup => {

@@ -6,6 +6,9 @@ use output::replies;
 use rrt_star::CostAt;
 use rrt_star::RrtStar;
 use script::Line;
+ghost use mathlib.Core.Path.{_≡_};
+ghost use Rattle.rrt_star.specs.Planner.{plannerOf};
+ghost use Rattle.star_calls.specs.Left.{leftBy, setupFrom, keepoutFrom, solveFrom, callOf};
 
 // Whether the call was made, and the planner after it.
 pub struct Called {
@@ -14,7 +17,9 @@ pub struct Called {
 }
 
 // One number more than the other tree planners: search_radius, after max_distance.
-fn setup(out: &mut [u8], planner: RrtStar, numbers: &[f64], table: KeepOuts) -> RrtStar {
+fn setup(out: &mut [u8], planner: RrtStar, numbers: &[f64], table: KeepOuts) -> RrtStar
+    ensures { λ r. ⌜ plannerOf r ≡ setupFrom (plannerOf planner) (now (numbers .entry)) table ⌝ }
+{
     let limits = given::limits(numbers);
     let segment = given::length(numbers, 6);
     let max_distance = given::length(numbers, 7);
@@ -35,7 +40,9 @@ fn setup(out: &mut [u8], planner: RrtStar, numbers: &[f64], table: KeepOuts) -> 
     done.planner
 }
 
-fn keepout(out: &mut [u8], planner: RrtStar, table: KeepOuts) -> RrtStar {
+fn keepout(out: &mut [u8], planner: RrtStar, table: KeepOuts) -> RrtStar
+    ensures { λ r. ⌜ plannerOf r ≡ keepoutFrom (plannerOf planner) table ⌝ }
+{
     let done = planner.add_keep_out(given::keep_out(table));
     let answer = done.answer;
     replies::answered(out, answer, 0);
@@ -43,7 +50,9 @@ fn keepout(out: &mut [u8], planner: RrtStar, table: KeepOuts) -> RrtStar {
 }
 
 // The route buffer is the first capacity numbers of a fresh one.
-fn solve(out: &mut [u8], planner: RrtStar, capacity: usize, samples: &[f64]) -> RrtStar {
+fn solve(out: &mut [u8], planner: RrtStar, capacity: usize, samples: &[f64]) -> RrtStar
+    ensures { λ r. ⌜ plannerOf r ≡ solveFrom (plannerOf planner) capacity (now (samples .entry)) ⌝ }
+{
     let mut buffer = route_buffer::fresh();
     let route = route_buffer::first(&mut buffer, capacity);
     let done = planner.solve(samples, route);
@@ -77,7 +86,9 @@ fn tables(out: &mut [u8], planner: RrtStar) {
 }
 
 // The numbers are all that the line has.
-pub fn call(out: &mut [u8], planner: RrtStar, line: Line, numbers: &[f64]) -> Called {
+pub fn call(out: &mut [u8], planner: RrtStar, line: Line, numbers: &[f64]) -> Called
+    ensures { λ r. ⌜ leftBy r ≡ callOf (plannerOf planner) line (now (numbers .entry)) ⌝ }
+{
     let verb = line.verb;
     match verb {
         Verb::Setup => {

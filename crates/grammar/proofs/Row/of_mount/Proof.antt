@@ -3,7 +3,7 @@ use mathlib.Core.Path.{refl, _∙_}
 use mathlib.Core.List.{[], _∷_}
 use borrow.Author.Needs.{needs}
 use Rattle.grammar.specs.declared.Verb.the-variants.{Keepout, Solve, Construct, Goals, Query, Tables, Other}
-use Rattle.grammar.specs.Rows.{mountRow}
+use Rattle.grammar.specs.Rows.{noRow, mountRow}
 use Rattle.grammar.proofs.Others.{none-for}
 use Rattle.grammar.proofs.Row.of_mount.Statement.{statement}
 use Rattle.grammar.proofs.Row.of_mount.Tie as tie
@@ -85,7 +85,7 @@ returns-8 : tie.Need-returns-8
 unfolding mountRow
 returns-8 c =
     c .none .ensures ∙
-    none-for mountRow (c .before .before .args .verb)
+    none-for noRow mountRow (c .before .before .args .verb)
     (Keepout ∷ Solve ∷ Construct ∷ Goals ∷ Query ∷ Tables ∷ Other ∷ [])
     refl
     (c .before .match .keys8)

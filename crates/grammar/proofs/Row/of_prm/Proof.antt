@@ -3,7 +3,7 @@ use mathlib.Core.Path.{refl, _∙_}
 use mathlib.Core.List.{[], _∷_}
 use borrow.Author.Needs.{needs}
 use Rattle.grammar.specs.declared.Verb.the-variants.{Solve, Distance, Between, Steer, Valid, Steps, Motion, Other}
-use Rattle.grammar.specs.Rows.{prmRow}
+use Rattle.grammar.specs.Rows.{noRow, prmRow}
 use Rattle.grammar.proofs.Others.{none-for}
 use Rattle.grammar.proofs.Row.of_prm.Statement.{statement}
 use Rattle.grammar.proofs.Row.of_prm.Tie as tie
@@ -75,7 +75,7 @@ returns-7 : tie.Need-returns-7
 unfolding prmRow
 returns-7 c =
     c .none .ensures ∙
-    none-for prmRow (c .before .before .args .verb)
+    none-for noRow prmRow (c .before .before .args .verb)
     (Solve ∷ Distance ∷ Between ∷ Steer ∷ Valid ∷ Steps ∷ Motion ∷ Other ∷ [])
     refl
     (c .before .match .keys7)

@@ -3,7 +3,7 @@ use mathlib.Core.Path.{refl, _∙_}
 use mathlib.Core.List.{[], _∷_}
 use borrow.Author.Needs.{needs}
 use Rattle.grammar.specs.declared.Verb.the-variants.{Construct, Goals, Query, Distance, Between, Steer, Valid, Steps, Motion, Other}
-use Rattle.grammar.specs.Rows.{treeRow}
+use Rattle.grammar.specs.Rows.{noRow, treeRow}
 use Rattle.grammar.proofs.Others.{none-for}
 use Rattle.grammar.proofs.Row.of_tree.Statement.{statement}
 use Rattle.grammar.proofs.Row.of_tree.Tie as tie
@@ -55,7 +55,7 @@ returns-5 : tie.Need-returns-5
 unfolding treeRow
 returns-5 c =
     c .none .ensures ∙
-    none-for (treeRow _) (c .before .before .args .verb)
+    none-for noRow (treeRow _) (c .before .before .args .verb)
     (Construct ∷ Goals ∷ Query ∷ Distance ∷ Between ∷ Steer ∷ Valid ∷ Steps ∷ Motion ∷ Other ∷ [])
     refl
     (c .before .match .keys5)
