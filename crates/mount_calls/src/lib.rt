@@ -8,6 +8,7 @@ use output::replies;
 use state::State;
 ghost use mathlib.Core.Path.{_≡_};
 ghost use Rattle.mount_calls.specs.None.{noneOf};
+ghost use Rattle.mount_calls.specs.Kept.{setupFrom, callOf};
 
 // The mount of the last accepted setup, if there was one.
 pub struct Kept {
@@ -41,7 +42,9 @@ pub fn none() -> Kept
 }
 
 // A setup that is refused keeps the former mount.
-fn setup(kept: Kept, numbers: &[f64], table: KeepOuts) -> Done {
+fn setup(kept: Kept, numbers: &[f64], table: KeepOuts) -> Done
+    ensures { λ r. ⌜ r .kept ≡ setupFrom kept (now (numbers .entry)) table ⌝ }
+{
     let limits = given::limits(numbers);
     let segment = given::length(numbers, 6);
     let mount = Mount {
@@ -78,7 +81,9 @@ fn leaf(kept: Kept, verb: Verb, numbers: &[f64]) -> Reply {
     Reply::Answered(Answer::Uninitialised)
 }
 
-fn outcome(kept: Kept, verb: Verb, numbers: &[f64], table: KeepOuts) -> Done {
+fn outcome(kept: Kept, verb: Verb, numbers: &[f64], table: KeepOuts) -> Done
+    ensures { λ r. ⌜ r .kept ≡ callOf kept verb (now (numbers .entry)) table ⌝ }
+{
     match verb {
         Verb::Setup => setup(kept, numbers, table),
         _ => Done {
@@ -174,7 +179,9 @@ fn write_steps(out: &mut [u8], used: usize, n: Steps) -> usize {
 }
 
 // The mount after a call, whose answer is written.
-pub fn call(out: &mut [u8], kept: Kept, verb: Verb, numbers: &[f64], table: KeepOuts) -> Kept {
+pub fn call(out: &mut [u8], kept: Kept, verb: Verb, numbers: &[f64], table: KeepOuts) -> Kept
+    ensures { λ r. ⌜ r ≡ callOf kept verb (now (numbers .entry)) table ⌝ }
+{
     let done = outcome(kept, verb, numbers, table);
     let reply = done.reply;
     write(out, reply);
