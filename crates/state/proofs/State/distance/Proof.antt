@@ -18,7 +18,7 @@ widened-requires-3 c κs = search needs
 
 returns : tie.Need-returns
 unfolding distanceOf
-returns c = let x = c .before .before .widened .ensures .0 in let y = c .before .widened2 .ensures .0 in let z = c .widened3 .ensures .0 in cc
+returns c = rw (c .before .widened2 .ensures .0, c .before .before .widened .ensures .0) at (c .widened3 .ensures .0)
 
 pub distance-spec : {M : Type 1} → statement M
 distance-spec = tie.close (tie.spec widened-requires widened-requires-2 widened-requires-3 returns)

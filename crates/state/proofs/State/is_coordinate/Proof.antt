@@ -1,5 +1,4 @@
 -- `state::State::is_coordinate` meets its contract.
-use Rattle.laws.specs.Cases.{cases}
 use Rattle.state.specs.Ranges.{coordinateOf}
 use borrow.Author.Needs.{needs}
 use Rattle.state.proofs.State.is_coordinate.Statement.{statement}
@@ -10,7 +9,7 @@ inside-requires c κs = search needs
 
 returns : tie.Need-returns
 unfolding coordinateOf
-returns c = search (cases, needs)
+returns c = c .inside .ensures
 
 pub is-coordinate-spec : {M : Type 1} → statement M
 is-coordinate-spec = tie.close (tie.spec inside-requires returns)

@@ -12,7 +12,7 @@ steer-by-requires c κs = search needs
 
 returns : tie.Need-returns
 unfolding steerOf
-returns c = cc
+returns c = rw (c .before .distance .ensures) at (c .steer-by .ensures)
 
 pub steer-spec : {M : Type 1} → statement M
 steer-spec = tie.close (tie.spec distance-requires steer-by-requires returns)

@@ -1,5 +1,4 @@
 -- `state::State::steer_by` meets its contract.
-use Rattle.laws.specs.Cases.{cases}
 use Rattle.state.specs.Steering.{steerBy}
 use borrow.Author.Needs.{needs}
 use Rattle.state.proofs.State.steer_by.Statement.{statement}
@@ -10,11 +9,11 @@ interpolate-requires c κs = search needs
 
 returns : tie.Need-returns
 unfolding steerBy
-returns c = search (cases, needs)
+returns c = rw (c .before .if1 .taken) (c .interpolate .ensures)
 
 returns-2 : tie.Need-returns-2
 unfolding steerBy
-returns-2 c = search (cases, needs)
+returns-2 c = rw (c .if1 .left)
 
 pub steer-by-spec : {M : Type 1} → statement M
 steer-by-spec = tie.close (tie.spec interpolate-requires returns returns-2)

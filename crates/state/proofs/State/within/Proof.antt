@@ -1,5 +1,5 @@
 -- `state::State::within` meets its contract.
-use Rattle.laws.specs.Cases.{cases}
+use mathlib.Core.Path.{sym, _∙_}
 use Rattle.state.specs.Ranges.{withinOf}
 use borrow.Author.Needs.{needs}
 use Rattle.state.proofs.State.within.Statement.{statement}
@@ -16,15 +16,20 @@ inside-requires-3 c κs = search needs
 
 returns : tie.Need-returns
 unfolding withinOf
-returns c = search (cases, needs)
+returns c =
+    let second = c .before .before in
+    let first = second .before .before in
+    rw (sym (first .inside .ensures) ∙ second .before .if1 .taken, sym (second .inside2 .ensures) ∙ c .before .if2 .taken) (c .inside3 .ensures)
 
 returns-2 : tie.Need-returns-2
 unfolding withinOf
-returns-2 c = search (cases, needs)
+returns-2 c =
+    let first = c .before .before .before in
+    rw (sym (first .inside .ensures) ∙ c .before .before .if1 .taken, sym (c .before .inside2 .ensures) ∙ c .if2 .left)
 
 returns-3 : tie.Need-returns-3
 unfolding withinOf
-returns-3 c = search (cases, needs)
+returns-3 c = rw (sym (c .before .inside .ensures) ∙ c .if1 .left)
 
 pub within-spec : {M : Type 1} → statement M
 within-spec =
