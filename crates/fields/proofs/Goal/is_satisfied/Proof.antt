@@ -9,7 +9,7 @@ distance-requires c κs = search needs
 
 returns : tie.Need-returns
 unfolding satisfiedOf
-returns c = cc
+returns c = rw (c .before .distance .ensures)
 
 pub is-satisfied-spec : {M : Type 1} → statement M
 is-satisfied-spec = tie.close (tie.spec distance-requires returns)

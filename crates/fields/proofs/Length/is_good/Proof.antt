@@ -1,5 +1,4 @@
 -- `fields::Length::is_good` meets its contract.
-use Rattle.laws.specs.Cases.{cases}
 use Rattle.fields.specs.Ranges.{goodLength}
 use borrow.Author.Needs.{needs}
 use Rattle.fields.proofs.Length.is_good.Statement.{statement}
@@ -10,7 +9,7 @@ inside-requires c κs = search needs
 
 returns : tie.Need-returns
 unfolding goodLength
-returns c = search (cases, needs)
+returns c = c .inside .ensures
 
 pub is-good-spec : {M : Type 1} → statement M
 is-good-spec = tie.close (tie.spec inside-requires returns)

@@ -1,5 +1,4 @@
 -- `fields::Limits::is_good` meets its contract.
-use Rattle.laws.specs.Cases.{cases}
 use Rattle.fields.specs.Ranges.{goodLimits}
 use borrow.Author.Needs.{needs}
 use Rattle.fields.proofs.Limits.is_good.Statement.{statement}
@@ -10,7 +9,7 @@ spans-requires c κs = search needs
 
 returns : tie.Need-returns
 unfolding goodLimits
-returns c = search (cases, needs)
+returns c = c .spans .ensures
 
 pub is-good-spec : {M : Type 1} → statement M
 is-good-spec = tie.close (tie.spec spans-requires returns)

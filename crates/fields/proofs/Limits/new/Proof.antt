@@ -1,5 +1,5 @@
 -- `fields::Limits::new` meets its contract.
-use Rattle.laws.specs.Cases.{cases}
+use mathlib.Core.Path.{sym, _∙_}
 use Rattle.fields.specs.Made.{limitsOf}
 use borrow.Author.Needs.{needs}
 use Rattle.fields.proofs.Limits.new.Statement.{statement}
@@ -10,11 +10,11 @@ is-good-requires c κs = search needs
 
 returns : tie.Need-returns
 unfolding limitsOf
-returns c = search (cases, needs)
+returns c = rw (sym (c .before .is-good .ensures) ∙ c .if1 .taken)
 
 returns-2 : tie.Need-returns-2
 unfolding limitsOf
-returns-2 c = search (cases, needs)
+returns-2 c = rw (sym (c .before .is-good .ensures) ∙ c .if1 .left)
 
 pub new-spec : {M : Type 1} → statement M
 new-spec = tie.close (tie.spec is-good-requires returns returns-2)

@@ -22,11 +22,11 @@ returns c = rw (c .before .before .self .given .1) (c .within .ensures)
 
 returns-2 : tie.Need-returns-2
 unfolding coversOf
-returns-2 c = cc
+returns-2 c = rw (c .before .before .before .self2 .given .1)
 
 returns-3 : tie.Need-returns-3
 unfolding coversOf
-returns-3 c = cc
+returns-3 c = rw (c .before .before .self3 .given .1)
 
 pub covers-spec : {M : Type 1} → statement M
 covers-spec =

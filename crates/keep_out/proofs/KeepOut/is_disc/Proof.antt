@@ -1,5 +1,5 @@
 -- `keep_out::KeepOut::is_disc` meets its contract.
-use Rattle.laws.specs.Cases.{cases}
+use mathlib.Core.Path.{sym, _∙_}
 use Rattle.keep_out.specs.Good.{goodDisc}
 use borrow.Author.Needs.{needs}
 use Rattle.keep_out.proofs.KeepOut.is_disc.Statement.{statement}
@@ -16,15 +16,20 @@ inside-requires c κs = search needs
 
 returns : tie.Need-returns
 unfolding goodDisc
-returns c = search (cases, needs)
+returns c =
+    let second = c .before .before in
+    let first = second .before .before in
+    rw (sym (first .is-coordinate .ensures) ∙ second .before .if1 .taken, sym (second .is-coordinate2 .ensures) ∙ c .before .if2 .taken) (c .inside .ensures)
 
 returns-2 : tie.Need-returns-2
 unfolding goodDisc
-returns-2 c = search (cases, needs)
+returns-2 c =
+    let first = c .before .before .before in
+    rw (sym (first .is-coordinate .ensures) ∙ c .before .before .if1 .taken, sym (c .before .is-coordinate2 .ensures) ∙ c .if2 .left)
 
 returns-3 : tie.Need-returns-3
 unfolding goodDisc
-returns-3 c = search (cases, needs)
+returns-3 c = rw (sym (c .before .is-coordinate .ensures) ∙ c .if1 .left)
 
 pub is-disc-spec : {M : Type 1} → statement M
 is-disc-spec =

@@ -1,5 +1,5 @@
 -- `mount::Mount::is_good` meets its contract.
-use Rattle.laws.specs.Cases.{cases}
+use mathlib.Core.Path.{sym, _∙_}
 use Rattle.mount.specs.Good.{goodMount}
 use borrow.Author.Needs.{needs}
 use Rattle.mount.proofs.Mount.is_good.Statement.{statement}
@@ -16,15 +16,20 @@ is-good-requires-3 c κs = search needs
 
 returns : tie.Need-returns
 unfolding goodMount
-returns c = search (cases, needs)
+returns c =
+    let second = c .before .before in
+    let first = second .before .before in
+    rw (sym (first .is-good .ensures) ∙ second .before .if1 .taken, sym (second .is-good2 .ensures) ∙ c .before .if2 .taken) (c .is-good3 .ensures)
 
 returns-2 : tie.Need-returns-2
 unfolding goodMount
-returns-2 c = search (cases, needs)
+returns-2 c =
+    let first = c .before .before .before in
+    rw (sym (first .is-good .ensures) ∙ c .before .before .if1 .taken, sym (c .before .is-good2 .ensures) ∙ c .if2 .left)
 
 returns-3 : tie.Need-returns-3
 unfolding goodMount
-returns-3 c = search (cases, needs)
+returns-3 c = rw (sym (c .before .is-good .ensures) ∙ c .if1 .left)
 
 pub is-good-spec : {M : Type 1} → statement M
 is-good-spec =

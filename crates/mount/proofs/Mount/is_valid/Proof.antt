@@ -1,5 +1,5 @@
 -- `mount::Mount::is_valid` meets its contract.
-use Rattle.laws.specs.Cases.{cases}
+use mathlib.Core.Path.{sym, _∙_}
 use Rattle.motion.specs.Valid.{validOf}
 use borrow.Author.Needs.{needs}
 use Rattle.mount.proofs.Mount.is_valid.Statement.{statement}
@@ -13,15 +13,19 @@ covers-requires c κs = search needs
 
 returns : tie.Need-returns
 unfolding validOf
-returns c = search (cases, needs)
+returns c =
+    let covers = c .before in
+    rw (sym (covers .before .before .within .ensures) ∙ covers .before .if1 .taken, sym (covers .covers .ensures) ∙ c .if2 .taken)
 
 returns-2 : tie.Need-returns-2
 unfolding validOf
-returns-2 c = search (cases, needs)
+returns-2 c =
+    let covers = c .before in
+    rw (sym (covers .before .before .within .ensures) ∙ covers .before .if1 .taken, sym (covers .covers .ensures) ∙ c .if2 .left)
 
 returns-3 : tie.Need-returns-3
 unfolding validOf
-returns-3 c = search (cases, needs)
+returns-3 c = rw (sym (c .before .within .ensures) ∙ c .if1 .left)
 
 pub is-valid-spec : {M : Type 1} → statement M
 is-valid-spec = tie.close (tie.spec within-requires covers-requires returns returns-2 returns-3)
