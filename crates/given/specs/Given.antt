@@ -1,4 +1,4 @@
--- What the numbers and keep-outs of a line of a script stand for. A place is that of the first number, from 0.
+-- What the numbers and keep-outs of a script's line, or of a host's setup, stand for. A place is that of the first number, from 0.
 use Prim.Native.Nat.{ℕ, _+_}
 use mathlib.Core.List.{List}
 use lib.ListN.{getD}

@@ -10,7 +10,7 @@ use Rattle.keep_out.specs.declared.KeepOut.{KeepOut}
 use Rattle.mount.specs.declared.Mount.{Mount}
 use Rattle.plan.specs.declared.Setting.{Setting}
 
--- what a tree planner's setup gave, without the start
+-- what a setup gave that every planner takes, without the start; max is max_distance, or PRM's connection_radius
 pub record Plan : Type 0 where
   pub limits : Limits
   pub segment : Float
