@@ -7,32 +7,32 @@ use native.Mathlib.Omega.{arith}
 use lib.ListN.{length, take, drop, get_or}
 use lib.Seq.{get_or-take}
 use lib.Ieee.{Float, nan, binary64, add, lt}
-use Rattle.laws.specs.Rest.{rest_more, rest-none}
+use Rattle.laws.specs.Rest.{rest_more, rest_none}
 use Rattle.state.specs.Distance.{distance_of}
 use Rattle.state.specs.declared.State.{State}
 use Rattle.fields.specs.declared.Limits.{Limits}
 use Rattle.keep_out.specs.declared.KeepOut.{KeepOut}
-use Rattle.motion.specs.Accepts.{acceptsOf}
+use Rattle.motion.specs.Accepts.{accepts_of}
 use Rattle.state.specs.Rows.{row_at}
-use Rattle.tree.specs.Table.{statesOf}
-use Rattle.tree.proofs.Append.{state-is}
+use Rattle.tree.specs.Table.{states_of}
+use Rattle.tree.proofs.Append.{state_is}
 use Rattle.choice.specs.declared.Choice.{Choice}
-use Rattle.choice.specs.Parent.{costVia, isBetter, chooseFrom, chooseOf}
+use Rattle.choice.specs.Parent.{cost_via, is_better, choose_from, choose_of}
 
 -- what the new state costs under the node i, from the columns
-via-is :
+via_is :
     (az el feed cost : List Float) (n : ℕ) (new : State) (i : ℕ) {d : Float} → n ≤ 512 → i < n → d ≡ distance_of new (row_at az el feed i) →
-    costVia (statesOf n az el feed) (take n cost) new i ≡ add binary64 (get_or cost i nan) d
-unfolding costVia
-via-is az el feed cost n new i room h e = ap₂ (add binary64) (get_or-take n cost i nan h) (ap (distance_of new) (state-is az el feed n i room h) ∙ sym e)
+    cost_via (states_of n az el feed) (take n cost) new i ≡ add binary64 (get_or cost i nan) d
+unfolding cost_via
+via_is az el feed cost n new i room h e = ap₂ (add binary64) (get_or-take n cost i nan h) (ap (distance_of new) (state_is az el feed n i room h) ∙ sym e)
 
 module _ (limits : Limits) (segment : Float) (ks : List KeepOut) (az el feed cost : List Float) (n : ℕ) (new : State) (nearest many : ℕ) (found : List ℕ) where
   abbrev whole : Choice
-  whole = chooseOf limits segment ks (statesOf n az el feed) (take n cost) new nearest (take many found)
+  whole = choose_of limits segment ks (states_of n az el feed) (take n cost) new nearest (take many found)
 
   -- the choice among some neighbours, with the best so far
   abbrev among : Choice → List ℕ → Choice
-  among = chooseFrom limits segment ks (statesOf n az el feed) (take n cost) new
+  among = choose_from limits segment ks (states_of n az el feed) (take n cost) new
 
   -- and among those from k on
   abbrev from : Choice → ℕ → Choice
@@ -42,9 +42,9 @@ module _ (limits : Limits) (segment : Float) (ks : List KeepOut) (az el feed cos
     pub within : k ≤ many
     pub is : whole ≡ from (record { parent = parent; cost = least }) k
 
-  pub chooses-first : {d : Float} → n ≤ 512 → nearest < n → d ≡ distance_of new (row_at az el feed nearest) → Choosing 0 nearest (add binary64 (get_or cost nearest nan) d)
-  unfolding chooseOf
-  chooses-first room h e = record { within = omega arith; is = ap (λ (c : Float). from (record { parent = nearest; cost = c }) 0) (via-is az el feed cost n new nearest room h e) }
+  pub chooses_first : {d : Float} → n ≤ 512 → nearest < n → d ≡ distance_of new (row_at az el feed nearest) → Choosing 0 nearest (add binary64 (get_or cost nearest nan) d)
+  unfolding choose_of
+  chooses_first room h e = record { within = omega arith; is = ap (λ (c : Float). from (record { parent = nearest; cost = c }) 0) (via_is az el feed cost n new nearest room h e) }
 
 module _ {limits : Limits} {segment : Float} {ks : List KeepOut} {az el feed cost : List Float} {n : ℕ} {new : State} {nearest many : ℕ} {found : List ℕ}
     {k parent : ℕ} {least : Float} (h : Choosing limits segment ks az el feed cost n new nearest many found k parent least) where
@@ -60,9 +60,9 @@ module _ {limits : Limits} {segment : Float} {ks : List KeepOut} {az el feed cos
   abbrev rest : Choice → ℕ → Choice
   rest = from limits segment ks az el feed cost n new nearest many found
 
-  pub chooses-last : many ≤ k → best ≡ all
-  unfolding chooseFrom
-  chooses-last e = sym (h.is ∙ ap (chosen best) (rest-none many found k e))
+  pub chooses_last : many ≤ k → best ≡ all
+  unfolding choose_from
+  chooses_last e = sym (h.is ∙ ap (chosen best) (rest_none many found k e))
 
   -- one turn, at the neighbour i
   module _ (room : n ≤ 512) (more : k < many) (long : many ≤ length found) (node : get_or found k 0 < n) {d : Float}
@@ -76,22 +76,22 @@ module _ {limits : Limits} {segment : Float} {ks : List KeepOut} {az el feed cos
     abbrev Next : ℕ → Float → Type 0
     Next parent' least' = Choosing limits segment ks az el feed cost n new nearest many found (k + 1) parent' least'
 
-    turn : all ≡ rest (cond (lt via least && acceptsOf limits segment ks (row_at az el feed i) new) (record { parent = i; cost = via }) best) (k + 1)
-    unfolding chooseFrom isBetter
+    turn : all ≡ rest (cond (lt via least && accepts_of limits segment ks (row_at az el feed i) new) (record { parent = i; cost = via }) best) (k + 1)
+    unfolding choose_from is_better
     turn =
         h.is ∙ ap (chosen best) (rest_more many found k 0 more long)
-        ∙ ap₂ (λ (c : Float) (s : State). rest (cond (lt c least && acceptsOf limits segment ks s new) (record { parent = i; cost = c }) best) (k + 1))
-        (via-is az el feed cost n new i room node far) (state-is az el feed n i room node)
+        ∙ ap₂ (λ (c : Float) (s : State). rest (cond (lt c least && accepts_of limits segment ks s new) (record { parent = i; cost = c }) best) (k + 1))
+        (via_is az el feed cost n new i room node far) (state_is az el feed n i room node)
 
     -- it does not cost less
-    pub chooses-dear : {parent' : ℕ} {least' : Float} → lt via least ≡ false → parent' ≡ parent → least' ≡ least → Next parent' least'
-    chooses-dear t p q = rw (p, q) record { within = omega arith; is = turn ∙ rw t }
+    pub chooses_dear : {parent' : ℕ} {least' : Float} → lt via least ≡ false → parent' ≡ parent → least' ≡ least → Next parent' least'
+    chooses_dear t p q = rw (p, q) record { within = omega arith; is = turn ∙ rw t }
 
-    module _ {ok : Bool} (a : ok ≡ acceptsOf limits segment ks (row_at az el feed i) new) (t : lt via least ≡ true) where
+    module _ {ok : Bool} (a : ok ≡ accepts_of limits segment ks (row_at az el feed i) new) (t : lt via least ≡ true) where
       -- it costs less, and the new state cannot be reached from it
-      pub chooses-barred : {parent' : ℕ} {least' : Float} → ok ≡ false → parent' ≡ parent → least' ≡ least → Next parent' least'
-      chooses-barred b p q = rw (p, q) record { within = omega arith; is = turn ∙ rw (t, ← a, b) }
+      pub chooses_barred : {parent' : ℕ} {least' : Float} → ok ≡ false → parent' ≡ parent → least' ≡ least → Next parent' least'
+      chooses_barred b p q = rw (p, q) record { within = omega arith; is = turn ∙ rw (t, ← a, b) }
 
       -- it costs less, and the new state can
-      pub chooses-one : {parent' : ℕ} {least' : Float} → ok ≡ true → parent' ≡ i → least' ≡ via → Next parent' least'
-      chooses-one b p q = rw (p, q) record { within = omega arith; is = turn ∙ rw (t, ← a, b) }
+      pub chooses_one : {parent' : ℕ} {least' : Float} → ok ≡ true → parent' ≡ i → least' ≡ via → Next parent' least'
+      chooses_one b p q = rw (p, q) record { within = omega arith; is = turn ∙ rw (t, ← a, b) }

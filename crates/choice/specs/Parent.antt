@@ -7,29 +7,29 @@ use Rattle.state.specs.Distance.{distance_of}
 use Rattle.state.specs.declared.State.{State}
 use Rattle.fields.specs.declared.Limits.{Limits}
 use Rattle.keep_out.specs.declared.KeepOut.{KeepOut}
-use Rattle.motion.specs.Accepts.{acceptsOf}
-use Rattle.tree.specs.Table.{stateAt}
+use Rattle.motion.specs.Accepts.{accepts_of}
+use Rattle.tree.specs.Table.{state_at}
 use Rattle.choice.specs.declared.Choice.{Choice}
 
 -- the cost of a node, read from the list of costs
-abbrev pub costAt : List Float → ℕ → Float
-costAt costs i = get_or costs i nan
+abbrev pub cost_at : List Float → ℕ → Float
+cost_at costs i = get_or costs i nan
 
 -- the cost of the new state under the node i
-unfoldable pub costVia : List State → List Float → State → ℕ → Float
-costVia states costs new i = add binary64 (costAt costs i) (distance_of new (stateAt states i))
+unfoldable pub cost_via : List State → List Float → State → ℕ → Float
+cost_via states costs new i = add binary64 (cost_at costs i) (distance_of new (state_at states i))
 
 -- the neighbour i replaces the best so far
-unfoldable pub isBetter : Limits → Float → List KeepOut → List State → List Float → State → Choice → ℕ → Bool
-isBetter limits segment ks states costs new best i =
-    lt (costVia states costs new i) best.cost && acceptsOf limits segment ks (stateAt states i) new
+unfoldable pub is_better : Limits → Float → List KeepOut → List State → List Float → State → Choice → ℕ → Bool
+is_better limits segment ks states costs new best i =
+    lt (cost_via states costs new i) best.cost && accepts_of limits segment ks (state_at states i) new
 
-unfoldable pub chooseFrom : Limits → Float → List KeepOut → List State → List Float → State → Choice → List ℕ → Choice
-chooseFrom limits segment ks states costs new best [] = best
-chooseFrom limits segment ks states costs new best (i ∷ is) =
-    let via : Choice = record { parent = i; cost = costVia states costs new i } in
-    chooseFrom limits segment ks states costs new (cond (isBetter limits segment ks states costs new best i) via best) is
+unfoldable pub choose_from : Limits → Float → List KeepOut → List State → List Float → State → Choice → List ℕ → Choice
+choose_from limits segment ks states costs new best [] = best
+choose_from limits segment ks states costs new best (i ∷ is) =
+    let via : Choice = record { parent = i; cost = cost_via states costs new i } in
+    choose_from limits segment ks states costs new (cond (is_better limits segment ks states costs new best i) via best) is
 
-unfoldable pub chooseOf : Limits → Float → List KeepOut → List State → List Float → State → ℕ → List ℕ → Choice
-chooseOf limits segment ks states costs new nearest neighbours =
-    chooseFrom limits segment ks states costs new (record { parent = nearest; cost = costVia states costs new nearest }) neighbours
+unfoldable pub choose_of : Limits → Float → List KeepOut → List State → List Float → State → ℕ → List ℕ → Choice
+choose_of limits segment ks states costs new nearest neighbours =
+    choose_from limits segment ks states costs new (record { parent = nearest; cost = cost_via states costs new nearest }) neighbours

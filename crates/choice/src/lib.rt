@@ -1,9 +1,9 @@
 // The choice of a new node's parent (document 01, "RRT*"): the one that costs least.
 ghost use Rattle.std.specs.Prelude.{◌≡◌, ◌≤◌, ◌<◌, length, take};
-ghost use Rattle.columns.specs.Columns.{columnsOf};
-ghost use Rattle.tree.specs.Table.{statesOf};
+ghost use Rattle.columns.specs.Columns.{columns_of};
+ghost use Rattle.tree.specs.Table.{states_of};
 ghost use Rattle.neighbours.specs.Neighbours.{Numbers};
-ghost use Rattle.choice.specs.Parent.{chooseOf};
+ghost use Rattle.choice.specs.Parent.{choose_of};
 
 use fields::Limits;
 use state::State;
@@ -33,7 +33,7 @@ pub fn choose_parent<'a>(
     nearest: usize,
 ) -> Choice
     requires { (n ≤ 512) × (nearest < n) × (many ≤ n) × Numbers n many found.now × (length found.now ≡ 512) }
-    ensures { result ≡ chooseOf limits segment (columnsOf kinds.now numbers.now keep_outs) (statesOf n az.now el.now feed.now) (take n cost.now) new nearest (take many found.now) }
+    ensures { result ≡ choose_of limits segment (columns_of kinds.now numbers.now keep_outs) (states_of n az.now el.now feed.now) (take n cost.now) new nearest (take many found.now) }
 {
     let from = State {
         az: az[nearest],

@@ -15,8 +15,8 @@ row_of (Disc az el r) = record { kind = 1; a = az; b = el; c = r; d = none; e = 
 row_of (Floor el) = record { kind = 2; a = el; b = none; c = none; d = none; e = none; f = none }
 
 -- kind 0 is a box, 1 a disc, and any other a floor
-unfoldable pub keepOutOf : Row → KeepOut
-keepOutOf r =
+unfoldable pub keep_out_of : Row → KeepOut
+keep_out_of r =
     let box = Box (record { az = r.a; el = r.b; feed = r.c }) (record { az = r.d; el = r.e; feed = r.f }) in
     let disc = Disc r.a r.b r.c in
     cond (eqb r.kind 0) box (cond (eqb r.kind 1) disc (Floor r.a))
@@ -34,5 +34,5 @@ row_at kinds numbers j =
       f = get_or numbers (6 * j + 5) nan;
     }
 
-unfoldable pub keepOutAt : List ℕ → List Float → ℕ → KeepOut
-keepOutAt kinds numbers j = keepOutOf (row_at kinds numbers j)
+unfoldable pub keep_out_at_of : List ℕ → List Float → ℕ → KeepOut
+keep_out_at_of kinds numbers j = keep_out_of (row_at kinds numbers j)

@@ -1,7 +1,7 @@
 // The keep-outs of a table as columns of plain numbers. A table of enums can only be passed by value, a copy of 1.8 KB a call;
 // columns are lent, so a planner spreads its table once a call, and the motion check reads it without a copy.
 ghost use Rattle.std.specs.Prelude.{◌≡◌, ◌<◌};
-ghost use Rattle.columns.specs.Rows.{row_of, keepOutAt};
+ghost use Rattle.columns.specs.Rows.{row_of, keep_out_at_of};
 ghost use Rattle.columns.specs.Columns.{Spread};
 
 use keep_out::KeepOut;
@@ -65,7 +65,7 @@ fn flattened(k: KeepOut) -> Row
 // The keep-out that stands in row j.
 pub fn keep_out_at<'a>(kinds: &'a [u8; 32], numbers: &'a [f64; 192], j: usize) -> KeepOut
     requires { j < 32 }
-    ensures { result ≡ keepOutAt kinds.now numbers.now j }
+    ensures { result ≡ keep_out_at_of kinds.now numbers.now j }
 {
     let at = 6 * j;
     let kind = kinds[j];

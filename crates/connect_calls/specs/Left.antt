@@ -1,26 +1,26 @@
 -- What a call of a script leaves of the RRT-Connect planner.
 use Rattle.std.specs.Prelude.{ℕ, List, take, Float}
 use Rattle.keep_out_table.specs.declared.KeepOuts.{KeepOuts}
-use Rattle.grammar.specs.Calls.{Left, treeCall}
-use Rattle.given.specs.Given.{fieldsIn, firstIn}
+use Rattle.grammar.specs.Calls.{Left, tree_call}
+use Rattle.given.specs.Given.{fields_in_of, first_in}
 use Rattle.route_buffer.specs.Buffer.{fresh_of}
 use Rattle.script.specs.declared.line.Line.{Line}
-use Rattle.rrt_connect.specs.Planner.{View, plannerOf, setupOf, addOf}
-use Rattle.rrt_connect.specs.Solve.{solveOf}
+use Rattle.rrt_connect.specs.Planner.{View, planner_of, setup_of, add_of}
+use Rattle.rrt_connect.specs.Solve.{solve_of}
 use Rattle.connect_calls.specs.declared.Called.{Called}
 
-abbrev pub leftBy : Called → Left View
-leftBy r = record { made = r.is_made; planner = plannerOf r.planner }
+abbrev pub left_by : Called → Left View
+left_by r = record { made = r.is_made; planner = planner_of r.planner }
 
-unfoldable pub setupFrom : View → List Float → KeepOuts → View
-setupFrom v l table = let f = fieldsIn l in (setupOf v f.limits f.segment f.reach f.start f.goal table).planner
+unfoldable pub setup_from : View → List Float → KeepOuts → View
+setup_from v l table = let f = fields_in_of l in (setup_of v f.limits f.segment f.reach f.start f.goal table).planner
 
-unfoldable pub keepoutFrom : View → KeepOuts → View
-keepoutFrom v table = (addOf v (firstIn table)).planner
+unfoldable pub keepout_from : View → KeepOuts → View
+keepout_from v table = (add_of v (first_in table)).planner
 
 -- the route buffer is the first `capacity` numbers of a fresh one
-unfoldable pub solveFrom : View → ℕ → List Float → View
-solveFrom v capacity samples = (solveOf v samples (take capacity fresh_of)).planner
+unfoldable pub solve_from : View → ℕ → List Float → View
+solve_from v capacity samples = (solve_of v samples (take capacity fresh_of)).planner
 
 unfoldable pub call_of : View → Line → List Float → Left View
-call_of v line l = treeCall v (setupFrom v l line.table) (keepoutFrom v line.table) (solveFrom v line.capacity l) line.verb
+call_of v line l = tree_call v (setup_from v l line.table) (keepout_from v line.table) (solve_from v line.capacity l) line.verb

@@ -6,36 +6,36 @@ use Rattle.state.specs.declared.State.{State}
 use Rattle.fields.specs.declared.Goal.{Goal}
 use Rattle.fields.specs.declared.Length.{Length}
 use Rattle.mount.specs.declared.Mount.{Mount}
-use Rattle.samples.specs.Samples.{samplesOf}
-use Rattle.tree.specs.Table.{nodesOf}
+use Rattle.samples.specs.Samples.{samples_of}
+use Rattle.tree.specs.Table.{nodes_of}
 use Rattle.tree.specs.declared.Tree.{Tree}
 use Rattle.route.specs.Written.{written_of}
-use Rattle.plan.specs.Plan.{Plan, planFrom}
-use Rattle.plan.specs.Solve.{Ended, noRoute}
+use Rattle.plan.specs.Plan.{Plan, plan_from}
+use Rattle.plan.specs.Solve.{Ended, no_route}
 use Rattle.turn.specs.Trees.{Trees}
-use Rattle.round.specs.Round.{Round, roundOf}
-use Rattle.ending.specs.Ending.{goesOnOf, answer_of, endPath}
+use Rattle.round.specs.Round.{Round, round_of}
+use Rattle.ending.specs.Ending.{goes_on_of, answer_of, end_path}
 use Rattle.connect_run.specs.declared.Ran.{Ran}
 
 -- what a round leads to: `later` is the run over the samples that are left
 unfoldable pub after_of : Round → ℕ → Ended Trees → Ended Trees
 after_of r taken later =
-    let here : Ended Trees = record { tables = r.trees; answer = answer_of r.ends; path = endPath r.ends r.trees; taken = taken } in
-    cond (goesOnOf r.ends) later here
+    let here : Ended Trees = record { tables = r.trees; answer = answer_of r.ends; path = end_path r.ends r.trees; taken = taken } in
+    cond (goes_on_of r.ends) later here
 
 unfoldable pub run_of : Plan → Trees → ℕ → List State → Ended Trees
-run_of p trees taken [] = noRoute trees SamplesEnded taken
+run_of p trees taken [] = no_route trees SamplesEnded taken
 run_of p trees taken (s ∷ ss) =
-    let r = roundOf p trees s in
+    let r = round_of p trees s in
     let later = run_of p r.trees (taken + 1) ss in
     after_of r (taken + 1) later
 
 -- what the code's run gives
 pub record Runs (mount : Mount) (max : Length) (target : Goal) (start goal : Tree) (samples old : List Float) (r : Ran) (new : List Float) : Type 0 where
   pub ended : Ended Trees
-  pub is : ended ≡ run_of (planFrom mount max target) (record { start = nodesOf start; goal = nodesOf goal }) 0 (samplesOf samples)
-  pub start-tree : nodesOf r.start ≡ ended.tables.start
-  pub goal-tree : nodesOf r.goal ≡ ended.tables.goal
+  pub is : ended ≡ run_of (plan_from mount max target) (record { start = nodes_of start; goal = nodes_of goal }) 0 (samples_of samples)
+  pub start_tree_is : nodes_of r.start ≡ ended.tables.start
+  pub goal_tree_is : nodes_of r.goal ≡ ended.tables.goal
   pub answer : r.answer ≡ ended.answer
   pub count : r.count ≡ length ended.path
   pub taken : r.taken ≡ ended.taken

@@ -11,14 +11,14 @@ use Rattle.state.specs.declared.State.{State}
 use Rattle.fields.specs.declared.Limits.{Limits}
 use Rattle.keep_out.specs.declared.KeepOut.{KeepOut}
 use Rattle.motion.specs.Valid.{valid_of}
-use Rattle.motion.specs.Accepts.{acceptsOf}
-use Rattle.roadmap.specs.Map.{Milestone, addOf, flags_of}
-use Rattle.roadmap.specs.View.{milestonesOf}
+use Rattle.motion.specs.Accepts.{accepts_of}
+use Rattle.roadmap.specs.Map.{Milestone, add_of, flags_of}
+use Rattle.roadmap.specs.View.{milestones_of}
 use Rattle.construct.specs.declared.Built.{Built}
 
 -- strictly inside the radius, and the motion from the new one to the earlier is accepted
-unfoldable pub joinedOf : Limits → Float → List KeepOut → Float → State → State → Bool
-joinedOf limits segment ks radius new earlier = lt (distance_of new earlier) radius && acceptsOf limits segment ks new earlier
+unfoldable pub joined_of : Limits → Float → List KeepOut → Float → State → State → Bool
+joined_of limits segment ks radius new earlier = lt (distance_of new earlier) radius && accepts_of limits segment ks new earlier
 
 -- how a construction ends
 pub record Constructed : Type 0 where
@@ -31,17 +31,17 @@ unfoldable pub run_of : Limits → Float → List KeepOut → Float → List Mil
 run_of limits segment ks radius ms taken [] = record { map = ms; answer = Done; taken = taken }
 run_of limits segment ks radius ms taken (s ∷ ss) =
     let passed = run_of limits segment ks radius ms (taken + 1) ss in
-    let grown = addOf ms s (flags_of (joinedOf limits segment ks radius) ms s) in
+    let grown = add_of ms s (flags_of (joined_of limits segment ks radius) ms s) in
     let added = run_of limits segment ks radius grown (taken + 1) ss in
     let full : Constructed = record { map = []; answer = Full; taken = taken + 1 } in
     cond (valid_of limits ks s) (cond (ltb (length ms) 256) added full) passed
 
 -- a roadmap that is empty is built of the samples; another is kept
-unfoldable pub constructOf : Limits → Float → List KeepOut → Float → List Milestone → List State → Constructed
-constructOf limits segment ks radius ms samples =
+unfoldable pub construct_of : Limits → Float → List KeepOut → Float → List Milestone → List State → Constructed
+construct_of limits segment ks radius ms samples =
     let run = run_of limits segment ks radius [] 0 samples in
     cond (eqb (length ms) 0) run (record { map = ms; answer = Done; taken = 0 })
 
 -- what a construction gave to its caller
-abbrev pub builtOf : Built → Constructed
-builtOf r = record { map = milestonesOf r.map; answer = r.answer; taken = r.taken }
+abbrev pub built_of : Built → Constructed
+built_of r = record { map = milestones_of r.map; answer = r.answer; taken = r.taken }

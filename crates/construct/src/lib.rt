@@ -1,12 +1,12 @@
 // The construction of a roadmap of samples (document 01, "PRM construction").
 ghost use Rattle.std.specs.Prelude.{◌≡◌, ℕ, ◌<◌, length};
-ghost use Rattle.keep_out_table.specs.Table.{keepOutsOf};
-ghost use Rattle.columns.specs.Columns.{columnsOf};
+ghost use Rattle.keep_out_table.specs.Table.{keep_outs_of};
+ghost use Rattle.columns.specs.Columns.{columns_of};
 ghost use Rattle.motion.specs.Valid.{valid_of};
-ghost use Rattle.samples.specs.Samples.{samplesOf};
+ghost use Rattle.samples.specs.Samples.{samples_of};
 ghost use Rattle.state.specs.Rows.{row_at};
-ghost use Rattle.roadmap.specs.View.{milestonesOf, Joins};
-ghost use Rattle.construct.specs.Construct.{joinedOf, constructOf, builtOf};
+ghost use Rattle.roadmap.specs.View.{milestones_of, Joins};
+ghost use Rattle.construct.specs.Construct.{joined_of, construct_of, built_of};
 
 use answer::Answer;
 use columns::Columns;
@@ -33,7 +33,7 @@ fn is_valid<'a>(
     keep_outs: usize,
     s: State,
 ) -> bool
-    ensures { result ≡ valid_of limits (columnsOf kinds.now numbers.now keep_outs) s }
+    ensures { result ≡ valid_of limits (columns_of kinds.now numbers.now keep_outs) s }
 {
     let rows = KeepOuts::rows_of(keep_outs);
     if s.within(limits.low, limits.high) {
@@ -66,7 +66,7 @@ fn join_earlier<'a>(
     legs: &mut [u64; 1024],
 )
     requires { (n < 256) × (length legs.old ≡ 1024) }
-    ensures { Joins legs.old n n (λ (j : ℕ). joinedOf limits segment (columnsOf kinds.now numbers.now keep_outs) radius new (row_at az.now el.now feed.now j)) legs.new }
+    ensures { Joins legs.old n n (λ (j : ℕ). joined_of limits segment (columns_of kinds.now numbers.now keep_outs) radius new (row_at az.now el.now feed.now j)) legs.new }
 {
     let mut j: usize = 0;
     'earlier: while j < n {
@@ -86,7 +86,7 @@ fn join_earlier<'a>(
 
 // Each valid sample becomes a milestone, joined to the earlier ones that it reaches. A roadmap that is not empty stays as it is.
 pub fn construct(mount: Mount, radius: f64, map: Roadmap, samples: &[f64]) -> Built
-    ensures { builtOf result ≡ constructOf mount.limits mount.segment.value (keepOutsOf mount.table) radius (milestonesOf map) (samplesOf samples.now) }
+    ensures { built_of result ≡ construct_of mount.limits mount.segment.value (keep_outs_of mount.table) radius (milestones_of map) (samples_of samples.now) }
 {
     let held = map.count;
     if held != 0 {

@@ -6,75 +6,75 @@ use native.Mathlib.Omega.{arith}
 use lib.ListN.{length, take, drop, length-append}
 use lib.Ieee.{Float}
 use Rattle.state.specs.declared.State.{State}
-use Rattle.tree.specs.Table.{Nodes, nodesIn}
-use Rattle.tree.proofs.Append.{states-length}
-use Rattle.route.specs.Path.{pathOf, upwardsOf}
-use Rattle.route.specs.Written.{flatOf, written_of, Wrote, Appended}
+use Rattle.tree.specs.Table.{Nodes, nodes_in}
+use Rattle.tree.proofs.Append.{states_length}
+use Rattle.route.specs.Path.{path_of, upwards_of}
+use Rattle.route.specs.Written.{flat_of, written_of, Wrote, Appended}
 use Rattle.route.proofs.Stores.{nothing_written}
 use Rattle.route.proofs.Upwards.{written_on}
 use Rattle.turn.specs.declared.Ends.{Ends}
 use Rattle.turn.specs.declared.Ends.TheVariants.{GoesOn, Full, Goal, Joined}
 use Rattle.turn.specs.Turn.{Columns}
-use Rattle.turn.specs.Trees.{Trees, treesAt}
-use Rattle.ending.specs.Ending.{endPath, newest, WroteEnd}
+use Rattle.turn.specs.Trees.{Trees, trees_at}
+use Rattle.ending.specs.Ending.{end_path, newest, WroteEnd}
 
-abbrev nodesAt : ℕ → Columns → Nodes
-nodesAt n c = nodesIn n c.az c.el c.feed c.parent
+abbrev nodes_at : ℕ → Columns → Nodes
+nodes_at n c = nodes_in n c.az c.el c.feed c.parent
 
-size_of : (n : ℕ) (c : Columns) → n ≤ 512 → length (nodesAt n c).states ≡ n
-unfolding nodesIn
-size_of n c h = states-length c.az c.el c.feed n h
+size_of : (n : ℕ) (c : Columns) → n ≤ 512 → length (nodes_at n c).states ≡ n
+unfolding nodes_in
+size_of n c h = states_length c.az c.el c.feed n h
 
 module _ (n m : ℕ) (c d : Columns) (old : List Float) where
   abbrev t : Trees
-  t = treesAt n c m d
+  t = trees_at n c m d
 
-  pub end-goes-on : (e : Ends) → e ≡ GoesOn → WroteEnd e t old 0 old
-  end-goes-on e is = record { count = path-nothing e is; memory = sym (ap (λ (l : List State). written_of l old) (path-none e is) ∙ nothing_written old) }
+  pub end_goes_on : (e : Ends) → e ≡ GoesOn → WroteEnd e t old 0 old
+  end_goes_on e is = record { count = path_nothing e is; memory = sym (ap (λ (l : List State). written_of l old) (path_none e is) ∙ nothing_written old) }
     where
-      path-none : (e : Ends) → e ≡ GoesOn → endPath e t ≡ []
-      path-none e is = unfold endPath in rw is
+      path_none : (e : Ends) → e ≡ GoesOn → end_path e t ≡ []
+      path_none e is = unfold end_path in rw is
 
-      path-nothing : (e : Ends) → e ≡ GoesOn → 0 ≡ length (endPath e t)
-      path-nothing e is = unfold endPath in rw is
+      path_nothing : (e : Ends) → e ≡ GoesOn → 0 ≡ length (end_path e t)
+      path_nothing e is = unfold end_path in rw is
 
-  pub end-full : (e : Ends) → e ≡ Full → WroteEnd e t old 0 old
-  end-full e is = record { count = path-nothing e is; memory = sym (ap (λ (l : List State). written_of l old) (path-none e is) ∙ nothing_written old) }
+  pub end_full : (e : Ends) → e ≡ Full → WroteEnd e t old 0 old
+  end_full e is = record { count = path_nothing e is; memory = sym (ap (λ (l : List State). written_of l old) (path_none e is) ∙ nothing_written old) }
     where
-      path-none : (e : Ends) → e ≡ Full → endPath e t ≡ []
-      path-none e is = unfold endPath in rw is
+      path_none : (e : Ends) → e ≡ Full → end_path e t ≡ []
+      path_none e is = unfold end_path in rw is
 
-      path-nothing : (e : Ends) → e ≡ Full → 0 ≡ length (endPath e t)
-      path-nothing e is = unfold endPath in rw is
+      path_nothing : (e : Ends) → e ≡ Full → 0 ≡ length (end_path e t)
+      path_nothing e is = unfold end_path in rw is
 
   module _ (few : n ≤ 512) (few' : m ≤ 512) where
-    start-path : pathOf (nodesAt n c) (n - 1) ≡ pathOf t.start (newest t.start)
-    unfolding treesAt
-    start-path = ap (λ (k : ℕ). pathOf (nodesAt n c) (k - 1)) (sym (size_of n c few))
+    start_path : path_of (nodes_at n c) (n - 1) ≡ path_of t.start (newest t.start)
+    unfolding trees_at
+    start_path = ap (λ (k : ℕ). path_of (nodes_at n c) (k - 1)) (sym (size_of n c few))
 
-    goal-path : upwardsOf (nodesAt m d) (m - 1) ≡ upwardsOf t.goal (newest t.goal)
-    unfolding treesAt
-    goal-path = ap (λ (k : ℕ). upwardsOf (nodesAt m d) (k - 1)) (sym (size_of m d few'))
+    goal_path : upwards_of (nodes_at m d) (m - 1) ≡ upwards_of t.goal (newest t.goal)
+    unfolding trees_at
+    goal_path = ap (λ (k : ℕ). upwards_of (nodes_at m d) (k - 1)) (sym (size_of m d few'))
 
-    is-goal : (e : Ends) → e ≡ Goal → pathOf (nodesAt n c) (n - 1) ≡ endPath e t
-    unfolding endPath
-    is-goal e is = rw is start-path
+    is_goal : (e : Ends) → e ≡ Goal → path_of (nodes_at n c) (n - 1) ≡ end_path e t
+    unfolding end_path
+    is_goal e is = rw is start_path
 
-    pub end-goal : (e : Ends) → e ≡ Goal → (r : ℕ) (new : List Float) → Wrote (nodesAt n c) (n - 1) old r new → WroteEnd e t old r new
-    end-goal e is r new w = record { count = w.count ∙ ap length (is-goal e is); memory = w.memory ∙ ap (λ (l : List State). written_of l old) (is-goal e is) }
+    pub end_goal : (e : Ends) → e ≡ Goal → (r : ℕ) (new : List Float) → Wrote (nodes_at n c) (n - 1) old r new → WroteEnd e t old r new
+    end_goal e is r new w = record { count = w.count ∙ ap length (is_goal e is); memory = w.memory ∙ ap (λ (l : List State). written_of l old) (is_goal e is) }
 
-    is-joined : (e : Ends) → e ≡ Joined → pathOf (nodesAt n c) (n - 1) ++ upwardsOf (nodesAt m d) (m - 1) ≡ endPath e t
-    unfolding endPath
-    is-joined e is = rw is (ap₂ (λ (x y : List State). x ++ y) start-path goal-path)
+    is_joined : (e : Ends) → e ≡ Joined → path_of (nodes_at n c) (n - 1) ++ upwards_of (nodes_at m d) (m - 1) ≡ end_path e t
+    unfolding end_path
+    is_joined e is = rw is (ap₂ (λ (x y : List State). x ++ y) start_path goal_path)
 
-    pub end-joined :
-        (e : Ends) → e ≡ Joined → (k up : ℕ) (mid new : List Float) → Wrote (nodesAt n c) (n - 1) old k mid → Appended (nodesAt m d) (m - 1) k mid up new →
+    pub end_joined :
+        (e : Ends) → e ≡ Joined → (k up : ℕ) (mid new : List Float) → Wrote (nodes_at n c) (n - 1) old k mid → Appended (nodes_at m d) (m - 1) k mid up new →
         WroteEnd e t old (k + up) new
-    end-joined e is k up mid new w a =
-        let path = pathOf (nodesAt n c) (n - 1) in
-        let more = upwardsOf (nodesAt m d) (m - 1) in
-        let memory : new ≡ take (3 * length path) mid ++ (flatOf more ++ drop (3 * (length path + length more)) mid) =
-        a.memory ∙ ap₂ (λ (x y : ℕ). take (3 * x) mid ++ (flatOf more ++ drop (3 * (x + y)) mid)) w.count a.count in
+    end_joined e is k up mid new w a =
+        let path = path_of (nodes_at n c) (n - 1) in
+        let more = upwards_of (nodes_at m d) (m - 1) in
+        let memory : new ≡ take (3 * length path) mid ++ (flat_of more ++ drop (3 * (length path + length more)) mid) =
+        a.memory ∙ ap₂ (λ (x y : ℕ). take (3 * x) mid ++ (flat_of more ++ drop (3 * (x + y)) mid)) w.count a.count in
         let whole : new ≡ written_of (path ++ more) old = written_on path more old mid new w.memory memory in
         let long : k + up ≡ length (path ++ more) = omega (arith, w.count, a.count, length-append path more) in
-        record { count = long ∙ ap length (is-joined e is); memory = whole ∙ ap (λ (l : List State). written_of l old) (is-joined e is) }
+        record { count = long ∙ ap length (is_joined e is); memory = whole ∙ ap (λ (l : List State). written_of l old) (is_joined e is) }

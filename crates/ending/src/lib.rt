@@ -1,14 +1,14 @@
 // What a sample led to (document 01, "RRT-Connect"), as an answer and as a route.
 ghost use Rattle.std.specs.Prelude.{◌≡◌, ◌≤◌, ◌<◌, length};
-ghost use Rattle.turn.specs.Turn.{columnsAt};
-ghost use Rattle.turn.specs.Trees.{treesAt};
-ghost use Rattle.ending.specs.Ending.{goesOnOf, answer_of, WroteEnd};
+ghost use Rattle.turn.specs.Turn.{columns_at};
+ghost use Rattle.turn.specs.Trees.{trees_at};
+ghost use Rattle.ending.specs.Ending.{goes_on_of, answer_of, WroteEnd};
 
 use answer::Answer;
 use turn::Ends;
 
 pub fn goes_on(ends: Ends) -> bool
-    ensures { result ≡ goesOnOf ends }
+    ensures { result ≡ goes_on_of ends }
 {
     match ends {
         Ends::GoesOn => true,
@@ -46,7 +46,7 @@ pub fn write<'a>(
     route: &mut [f64],
 ) -> usize
     requires { (0 < n) × (n ≤ 512) × (0 < m) × (m ≤ 512) × (3069 ≤ length route.old) }
-    ensures { WroteEnd ends (treesAt n (columnsAt az.now el.now feed.now parent.now) m (columnsAt goal_az.now goal_el.now goal_feed.now goal_parent.now)) route.old result route.new }
+    ensures { WroteEnd ends (trees_at n (columns_at az.now el.now feed.now parent.now) m (columns_at goal_az.now goal_el.now goal_feed.now goal_parent.now)) route.old result route.new }
 {
     match ends {
         Ends::GoesOn => 0,

@@ -3,7 +3,7 @@ use Rattle.std.specs.Prelude.{Bool, true, ◌&&◌, List, [], ◌∷◌, T, Floa
 use Rattle.std.specs.Float.Ieee.{round, of_bits, to_bits}
 use Rattle.state.specs.Ranges as state
 use Rattle.fields.specs.Ranges as fields
-use Rattle.keep_out.specs.Good as keepOut
+use Rattle.keep_out.specs.Good as keep_out
 use Rattle.motion.specs.Points as motion
 use Rattle.examples.specs.Words.{ratio, whole, minus, same}
 
@@ -12,9 +12,9 @@ infix 70 ◌is◌
 pub data Constant : Type 0 where
   ◌is◌ : Float → Float → Constant
 
-unfoldable pub areSame : List Constant → Bool
-areSame [] = true
-areSame ((x is y) ∷ cs) = same x y && areSame cs
+unfoldable pub are_same : List Constant → Bool
+are_same [] = true
+are_same ((x is y) ∷ cs) = same x y && are_same cs
 
 unfoldable pub constants : List Constant
 constants =
@@ -22,20 +22,20 @@ constants =
     state.lowest is minus 1024
     ∷ state.highest is whole 1024
     -- segment length, max_distance, search_radius and connection_radius lie from 0.001 to 4,096
-    ∷ fields.leastLength is ratio 1 1000
-    ∷ fields.mostLength is whole 4096
+    ∷ fields.least_length is ratio 1 1000
+    ∷ fields.most_length is whole 4096
     -- a goal's radius is 0 to 4,096
-    ∷ fields.leastRadius is whole 0
-    ∷ fields.mostRadius is whole 4096
+    ∷ fields.least_radius is whole 0
+    ∷ fields.most_radius is whole 4096
     -- a disc's radius is 0 to 1,024
-    ∷ keepOut.leastRadius is whole 0
-    ∷ keepOut.mostRadius is whole 1024
+    ∷ keep_out.least_radius is whole 0
+    ∷ keep_out.most_radius is whole 1024
     -- q = distance(from, to) / (segment length * 0.1)
     ∷ motion.part is ratio 1 10
     -- if q isn't at most 4,096 the motion is not accepted
-    ∷ motion.mostPoints is whole 4096
+    ∷ motion.most_points is whole 4096
     ∷ []
 
-pub constants-are : T (areSame constants)
-unfolding constants areSame same round of_bits to_bits
-constants-are = tt
+pub constants_are : T (are_same constants)
+unfolding constants are_same same round of_bits to_bits
+constants_are = tt

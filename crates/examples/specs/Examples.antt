@@ -5,69 +5,69 @@ use Rattle.std.specs.Bool.{beq}
 use Rattle.std.specs.Float.Ieee.{add, sub, mul, div, lt, le, of_int, of_bits, to_bits}
 use Rattle.answer.specs.Number.{number_of}
 use Rattle.answer.specs.declared.Answer.{Answer}
-use Rattle.state.specs.Ranges.{insideOf, withinOf, coordinateOf, goodState, atMostOf, goodSpan}
-use Rattle.fields.specs.Ranges.{goodLimits, goodLength, goodGoal}
-use Rattle.state.specs.Distance.{apartOf, widerOf, distance_of}
-use Rattle.state.specs.Steering.{interpolateOf, steerBy, steerOf}
-use Rattle.fields.specs.Satisfied.{satisfiedOf}
+use Rattle.state.specs.Ranges.{inside_of, within_of, coordinate_of, good_state, at_most_of, good_span}
+use Rattle.fields.specs.Ranges.{good_limits, good_length, good_goal}
+use Rattle.state.specs.Distance.{apart_of, wider_of, distance_of}
+use Rattle.state.specs.Steering.{interpolate_of, steer_by_of, steer_of}
+use Rattle.fields.specs.Satisfied.{satisfied_of}
 use Rattle.state.specs.declared.State.{State}
 use Rattle.fields.specs.declared.Goal.{Goal}
-use Rattle.keep_out.specs.Covers.{coversOf, coveredOf}
-use Rattle.keep_out.specs.Good.{goodKeepOut}
-use Rattle.keep_out_table.specs.Good.{allGood, goodTable}
-use Rattle.keep_out_table.specs.Table.{keepOutsOf, emptyTable}
+use Rattle.keep_out.specs.Covers.{covers_of, covered_of}
+use Rattle.keep_out.specs.Good.{good_keep_out}
+use Rattle.keep_out_table.specs.Good.{all_good, good_table}
+use Rattle.keep_out_table.specs.Table.{keep_outs_of, empty_table}
 use Rattle.keep_out.specs.declared.KeepOut.{KeepOut}
 use Rattle.keep_out.specs.declared.KeepOut.TheVariants.{Disc}
-use Rattle.mount.specs.Good.{goodMount}
+use Rattle.mount.specs.Good.{good_mount}
 use Rattle.motion.specs.Valid.{valid_of}
-use Rattle.motion.specs.Points.{quotient_of, searchOf, leastOf, steps_of, partWay, partWays, tested_of, Checked, tooMany, points, checkedAt, checkedOf}
-use Rattle.motion.specs.Accepts.{allValid, acceptedOf, acceptsOf}
+use Rattle.motion.specs.Points.{quotient_of, search_of, least_of, steps_of, part_way, part_ways, tested_of, Checked, too_many, points, checked_at, checked_of}
+use Rattle.motion.specs.Accepts.{all_valid, accepted_of, accepts_of}
 use Rattle.motion.specs.declared.Steps.{Steps}
 use Rattle.motion.specs.declared.Steps.TheVariants.{Count, Many}
-use Rattle.samples.specs.Samples.{allCoordinates, goodSamples, samplesOf}
-use Rattle.tree.specs.Table.{Nodes, grownOf, rootOf}
-use Rattle.nearest.specs.Nearest.{nearestFrom, nearestOf}
-use Rattle.step.specs.Step.{stepFrom, step_of}
-use Rattle.route.specs.Path.{climbOf, pathOf, ancestorsOf, upwardsOf}
-use Rattle.route.specs.Written.{flatOf, written_of}
+use Rattle.samples.specs.Samples.{all_coordinates, good_samples, samples_of}
+use Rattle.tree.specs.Table.{Nodes, grown_of, root_of}
+use Rattle.nearest.specs.Nearest.{nearest_from, nearest_of}
+use Rattle.step.specs.Step.{step_from, step_of}
+use Rattle.route.specs.Path.{climb_of, path_of, ancestors_of, upwards_of}
+use Rattle.route.specs.Written.{flat_of, written_of}
 use Rattle.plan.specs.Plan.{Plan, unset, set}
-use Rattle.plan.specs.Setup.{goodSetup, setting_of, setupWith}
-use Rattle.plan.specs.Solve.{Outcome, ended_of, solveWith}
-use Rattle.plan.specs.KeepOut.{longerOf}
-use Rattle.rrt.specs.Planner.{newOf, setupOf}
+use Rattle.plan.specs.Setup.{good_setup, setting_of, setup_with}
+use Rattle.plan.specs.Solve.{Outcome, ended_of, solve_with}
+use Rattle.plan.specs.KeepOut.{longer_of}
+use Rattle.rrt.specs.Planner.{new_of, setup_of}
 use Rattle.rrt_run.specs.Run.{after_of, run_of}
-use Rattle.rrt.specs.Solve.{solveOf}
-use Rattle.extend.specs.Extend.{afterStep, extendOf}
-use Rattle.turn.specs.Turn.{connectEnds, byVerdict, turn_of}
+use Rattle.rrt.specs.Solve.{solve_of}
+use Rattle.extend.specs.Extend.{after_step, extend_of}
+use Rattle.turn.specs.Turn.{connect_ends_of, by_verdict, turn_of}
 use Rattle.turn.specs.Trees.{Trees}
-use Rattle.round.specs.Round.{roundOf}
-use Rattle.ending.specs.Ending.{endPath}
+use Rattle.round.specs.Round.{round_of}
+use Rattle.ending.specs.Ending.{end_path}
 use Rattle.rrt_connect.specs.Planner as planner
 use Rattle.connect_run.specs.Run as run
 use Rattle.rrt_connect.specs.Solve as connect
-use Rattle.neighbours.specs.Neighbours.{neighboursFrom, neighboursOf}
-use Rattle.choice.specs.Parent.{costVia, isBetter, chooseFrom, chooseOf}
-use Rattle.rewire.specs.Rewiring.{costUnder, moves, rewireOf}
+use Rattle.neighbours.specs.Neighbours.{neighbours_from, neighbours_of}
+use Rattle.choice.specs.Parent.{cost_via, is_better, choose_from, choose_of}
+use Rattle.rewire.specs.Rewiring.{cost_under, moves, rewire_of}
 use Rattle.star.specs.Grow as grow
-use Rattle.star.specs.Grow.{Costed, addedOf, growOf}
+use Rattle.star.specs.Grow.{Costed, added_of, grow_of}
 use Rattle.star_run.specs.Run as star-run
 use Rattle.star_run.specs.Run.{StarPlan}
 use Rattle.rrt_star.specs.Planner as star
 use Rattle.rrt_star.specs.Solve as star-solve
-use Rattle.roadmap.specs.Map.{Milestone, milestoneAt, mark_of, addOf, flags_of}
+use Rattle.roadmap.specs.Map.{Milestone, milestone_at, mark_of, add_of, flags_of}
 use Rattle.roadmap.specs.View.{span_of}
 use Rattle.construct.specs.Construct as roadmap
 use Rattle.queue.specs.Places as queue
 use Rattle.search.specs.Search as search
 use Rattle.search.specs.Query as search-query
-use Rattle.prune.specs.Hit.{meetsOf, hitAmong, hitOf}
-use Rattle.prune.specs.Prune.{left_of, leavesOf, prunedOf}
+use Rattle.prune.specs.Hit.{meets_of, hit_among, hit_of}
+use Rattle.prune.specs.Prune.{left_of, leaves_of, pruned_of}
 use Rattle.prm.specs.Planner as prm
 use Rattle.prm.specs.Construct as prm-construct
 use Rattle.prm.specs.Query as prm-query
 use Rattle.prm.specs.Query.{Reply}
 use Rattle.prm.specs.Adding as prm-adding
-use Rattle.examples.specs.Words.{ratio, whole, at, on, origin, limits, segment, box, unused, none, same, sameState, same_lists, sameStates, same_numbers, sameIndices}
+use Rattle.examples.specs.Words.{ratio, whole, at, on, origin, limits, segment, box, unused, none, same, same_state, same_lists, same_states, same_numbers, same_indices}
 
 -- what an example says
 pub data Case : Type 0 where
@@ -97,9 +97,9 @@ unfoldable pub counts : Steps → ℕ → Bool
 counts (Count n) m = eqb n m
 counts Many m = false
 
-unfoldable pub pointsAre : Checked → List State → Bool
-pointsAre tooMany ss = false
-pointsAre (points ts) ss = sameStates ts ss
+unfoldable pub points_are : Checked → List State → Bool
+points_are too_many ss = false
+points_are (points ts) ss = same_states ts ss
 
 -- the route's numbers stand at the front of a buffer of that length, and every number behind them is kept
 unfoldable pub writes : ℕ → ℕ → List Float → List Float → Bool
@@ -110,84 +110,84 @@ writes size count route numbers =
 unfoldable pub gives : ℕ → Answer → ℕ → ℕ → List Float → List Float → ℕ → Bool
 gives size answer count taken route numbers samples = eqb (number_of answer) 0 && eqb taken samples && writes size count route numbers
 
-unfoldable pub plannedBy : Float → State → Goal → List Float → Outcome Plan Nodes
-plannedBy max start goal samples =
-    let told = setupOf newOf limits (record { value = segment }) (record { value = max }) start goal emptyTable in
-    solveOf told.planner samples (replicate 1536 unused)
+unfoldable pub planned_by : Float → State → Goal → List Float → Outcome Plan Nodes
+planned_by max start goal samples =
+    let told = setup_of new_of limits (record { value = segment }) (record { value = max }) start goal empty_table in
+    solve_of told.planner samples (replicate 1536 unused)
 
-unfoldable pub connectedBy : Float → State → Goal → List Float → Outcome Plan Trees
-connectedBy max start goal samples =
-    let told = planner.setupOf planner.newOf limits (record { value = segment }) (record { value = max }) start goal emptyTable in
-    connect.solveOf told.planner samples (replicate 3069 unused)
+unfoldable pub connected_by : Float → State → Goal → List Float → Outcome Plan Trees
+connected_by max start goal samples =
+    let told = planner.setup_of planner.new_of limits (record { value = segment }) (record { value = max }) start goal empty_table in
+    connect.solve_of told.planner samples (replicate 3069 unused)
 
-unfoldable pub rewiredBy : Float → Float → State → Goal → List Float → Outcome StarPlan Costed
-rewiredBy max search start goal samples =
-    let told = star.setupOf star.newOf limits (record { value = segment }) (record { value = max }) (record { value = search }) start goal emptyTable in
-    star-solve.solveOf told.planner samples (replicate 1536 unused)
+unfoldable pub rewired_by : Float → Float → State → Goal → List Float → Outcome StarPlan Costed
+rewired_by max search start goal samples =
+    let told = star.setup_of star.new_of limits (record { value = segment }) (record { value = max }) (record { value = search }) start goal empty_table in
+    star-solve.solve_of told.planner samples (replicate 1536 unused)
 
 -- how the nodes of a planner that is set up hang together
 unfoldable pub hangs : star.View → List ℕ → List Float → Bool
 hangs unset parents costs = false
-hangs (set plan tree) parents costs = sameIndices tree.nodes.parents parents && same_numbers tree.costs costs
+hangs (set plan tree) parents costs = same_indices tree.nodes.parents parents && same_numbers tree.costs costs
 
 -- the roadmap of a planner that is set up from the origin to the origin
-unfoldable pub chartedBy : Float → List Float → prm-construct.Construction
-chartedBy radius samples =
+unfoldable pub charted_by : Float → List Float → prm-construct.Construction
+charted_by radius samples =
     let goal : Goal = record { centre = origin; radius = whole 0 } in
-    let told = prm.setupOf prm.newOf limits (record { value = segment }) (record { value = radius }) origin goal emptyTable in
-    prm-construct.constructOf told.planner samples
+    let told = prm.setup_of prm.new_of limits (record { value = segment }) (record { value = radius }) origin goal empty_table in
+    prm-construct.construct_of told.planner samples
 
 -- a query over it, of another start and goal
 unfoldable pub asked_of : prm.View → State → Goal → Reply
-asked_of planner start goal = prm-query.queryOf (prm.goalsOf planner start goal).planner (replicate 771 unused)
+asked_of planner start goal = prm-query.query_of (prm.goals_of planner start goal).planner (replicate 771 unused)
 
 -- the neighbours of each milestone, in order
 unfoldable pub joins : prm.View → List (List ℕ) → Bool
 joins unset neighbours = false
-joins (set given ms) neighbours = same_lists sameIndices (span_of 0 (length ms) (search.neighboursOf ms)) neighbours
+joins (set given ms) neighbours = same_lists same_indices (span_of 0 (length ms) (search.neighbours_of ms)) neighbours
 
 -- the milestones, in order
 unfoldable pub stands : prm.View → List State → Bool
 stands unset states = false
-stands (set given ms) states = sameStates (map (λ (m : Milestone). m.at) ms) states
+stands (set given ms) states = same_states (map (λ (m : Milestone). m.at) ms) states
 
 -- keep-outs added one by one, each of them accepted
-unfoldable pub takesAll : prm.View → List KeepOut → Bool
-takesAll planner [] = true
-takesAll planner (k ∷ ks) =
-    let told = prm-adding.addOf planner k in
-    eqb (number_of told.answer) 0 && takesAll told.planner ks
+unfoldable pub takes_all : prm.View → List KeepOut → Bool
+takes_all planner [] = true
+takes_all planner (k ∷ ks) =
+    let told = prm-adding.add_of planner k in
+    eqb (number_of told.answer) 0 && takes_all told.planner ks
 
 unfoldable pub holds : Case → Bool
 holds (distance a b d) = same (distance_of a b) d
-holds (tested length from to n ss) = counts (steps_of length from to) n && pointsAre (checkedOf length from to) ss
-holds (accepted ks from to r) = beq (acceptsOf limits segment ks from to) r
-holds (covered k s r) = beq (coversOf k s) r
-holds (steered max near sample new) = sameState (steerOf max near sample) new
+holds (tested length from to n ss) = counts (steps_of length from to) n && points_are (checked_of length from to) ss
+holds (accepted ks from to r) = beq (accepts_of limits segment ks from to) r
+holds (covered k s r) = beq (covers_of k s) r
+holds (steered max near sample new) = same_state (steer_of max near sample) new
 holds (planned max start goal samples numbers taken) =
-    let o = plannedBy max start goal samples in
+    let o = planned_by max start goal samples in
     gives 1536 o.answer o.count o.taken o.route numbers taken
 holds (connected max start goal samples numbers taken) =
-    let o = connectedBy max start goal samples in
+    let o = connected_by max start goal samples in
     gives 3069 o.answer o.count o.taken o.route numbers taken
 holds (rewired max search start goal samples answer parents costs) =
-    let o = rewiredBy max search start goal samples in
+    let o = rewired_by max search start goal samples in
     eqb (number_of o.answer) answer && hangs o.planner parents costs
 holds (charted radius samples start goal taken neighbours numbers) =
-    let built = chartedBy radius samples in
+    let built = charted_by radius samples in
     let reply = asked_of built.planner start goal in
     eqb (number_of built.answer) 0 && joins built.planner neighbours
     && gives 771 reply.answer reply.count built.taken reply.route numbers taken
 holds (pruned radius samples ks start goal states neighbours answer numbers) =
-    let built = (chartedBy radius samples).planner in
-    let left = prm-adding.addedAll built ks in
+    let built = (charted_by radius samples).planner in
+    let left = prm-adding.added_all built ks in
     let reply = asked_of left start goal in
-    takesAll built ks && stands left states && joins left neighbours
+    takes_all built ks && stands left states && joins left neighbours
     && eqb (number_of reply.answer) answer && writes 771 reply.count reply.route numbers
 
-unfoldable pub allHold : List Case → Bool
-allHold [] = true
-allHold (c ∷ cs) = holds c && allHold cs
+unfoldable pub all_hold : List Case → Bool
+all_hold [] = true
+all_hold (c ∷ cs) = holds c && all_hold cs
 
 unfoldable pub examples : List Case
 examples =
@@ -244,6 +244,6 @@ examples =
     (origin ∷ on (whole 2) ∷ []) ([] ∷ [] ∷ []) 7 []
     ∷ []
 
-pub examples-hold : T (allHold examples)
-unfolding examples allHold holds counts pointsAre writes gives plannedBy same sameState same_lists distance_of widerOf apartOf interpolateOf steerBy steerOf satisfiedOf insideOf withinOf coordinateOf goodState atMostOf goodSpan goodLimits goodLength goodGoal coversOf coveredOf allGood goodTable keepOutsOf emptyTable valid_of goodMount quotient_of searchOf leastOf steps_of partWay partWays tested_of checkedAt checkedOf allValid acceptedOf acceptsOf allCoordinates goodSamples samplesOf grownOf rootOf nearestFrom nearestOf stepFrom step_of climbOf pathOf flatOf written_of goodSetup setting_of setupWith setupOf after_of run_of ended_of solveWith solveOf connectedBy ancestorsOf upwardsOf afterStep extendOf connectEnds byVerdict turn_of roundOf endPath planner.setupOf run.after_of run.run_of connect.solveOf rewiredBy hangs neighboursFrom neighboursOf costVia isBetter chooseFrom chooseOf costUnder moves rewireOf addedOf grow.afterStep growOf star-run.after_of star-run.run_of star.setupOf star-solve.solveOf chartedBy asked_of joins span_of milestoneAt mark_of addOf flags_of roadmap.joinedOf roadmap.run_of roadmap.constructOf queue.numbersOf search.connectionsOf search.neighboursOf search.placeAt queue.queuedOf queue.pushOf search.searchOf search-query.goalOf search-query.soughtOf search-query.tree_of search-query.routeOf search-query.queryOf prm.setupOf prm.goalsOf prm-construct.constructOf prm-query.foundOf prm-query.queryOf stands takesAll goodKeepOut longerOf meetsOf hitAmong hitOf left_of leavesOf prunedOf prm-adding.addOf prm-adding.addedAll add sub mul div lt le of_int of_bits to_bits
-examples-hold = tt
+pub examples_hold : T (all_hold examples)
+unfolding examples all_hold holds counts points_are writes gives planned_by same same_state same_lists distance_of wider_of apart_of interpolate_of steer_by_of steer_of satisfied_of inside_of within_of coordinate_of good_state at_most_of good_span good_limits good_length good_goal covers_of covered_of all_good good_table keep_outs_of empty_table valid_of good_mount quotient_of search_of least_of steps_of part_way part_ways tested_of checked_at checked_of all_valid accepted_of accepts_of all_coordinates good_samples samples_of grown_of root_of nearest_from nearest_of step_from step_of climb_of path_of flat_of written_of good_setup setting_of setup_with setup_of after_of run_of ended_of solve_with solve_of connected_by ancestors_of upwards_of after_step extend_of connect_ends_of by_verdict turn_of round_of end_path planner.setup_of run.after_of run.run_of connect.solve_of rewired_by hangs neighbours_from neighbours_of cost_via is_better choose_from choose_of cost_under moves rewire_of added_of grow.after_step grow_of star-run.after_of star-run.run_of star.setup_of star-solve.solve_of charted_by asked_of joins span_of milestone_at mark_of add_of flags_of roadmap.joined_of roadmap.run_of roadmap.construct_of queue.numbers_of search.connections_of search.neighbours_of search.place_at queue.queued_of queue.push_of search.search_of search-query.goal_of search-query.sought_of search-query.tree_of search-query.route_of search-query.query_of prm.setup_of prm.goals_of prm-construct.construct_of prm-query.found_of prm-query.query_of stands takes_all good_keep_out longer_of meets_of hit_among hit_of left_of leaves_of pruned_of prm-adding.add_of prm-adding.added_all add sub mul div lt le of_int of_bits to_bits
+examples_hold = tt

@@ -51,8 +51,8 @@ none = 512
 unfoldable pub same : Float → Float → Bool
 same x y = eqb (to_bits binary64 x) (to_bits binary64 y)
 
-unfoldable pub sameState : State → State → Bool
-sameState s t = same s.az t.az && same s.el t.el && same s.feed t.feed
+unfoldable pub same_state : State → State → Bool
+same_state s t = same s.az t.az && same s.el t.el && same s.feed t.feed
 
 -- two lists, place by place
 unfoldable pub same_lists : {A : Type 0} → (A → A → Bool) → List A → List A → Bool
@@ -61,11 +61,11 @@ same_lists f (x ∷ xs) (y ∷ ys) = f x y && same_lists f xs ys
 same_lists f [] (y ∷ ys) = false
 same_lists f (x ∷ xs) [] = false
 
-abbrev pub sameStates : List State → List State → Bool
-sameStates = same_lists sameState
+abbrev pub same_states : List State → List State → Bool
+same_states = same_lists same_state
 
 abbrev pub same_numbers : List Float → List Float → Bool
 same_numbers = same_lists same
 
-abbrev pub sameIndices : List ℕ → List ℕ → Bool
-sameIndices = same_lists eqb
+abbrev pub same_indices : List ℕ → List ℕ → Bool
+same_indices = same_lists eqb

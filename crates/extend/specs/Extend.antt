@@ -3,7 +3,7 @@ use Rattle.std.specs.Prelude.{ℕ, ◌≤◌, ◌<◌, Bool, cond, List, ◌≡�
 use Rattle.state.specs.declared.State.{State}
 use Rattle.fields.specs.declared.Limits.{Limits}
 use Rattle.keep_out.specs.declared.KeepOut.{KeepOut}
-use Rattle.tree.specs.Table.{Nodes, nodesIn, grownOf}
+use Rattle.tree.specs.Table.{Nodes, nodes_in, grown_of}
 use Rattle.step.specs.Step.{step_of}
 use Rattle.step.specs.declared.Stepped.{Stepped}
 use Rattle.extend.specs.declared.Verdict.{Verdict}
@@ -17,15 +17,15 @@ pub record Grown : Type 0 where
   pub at : State
   pub reached : Bool
 
-unfoldable pub afterStep : Nodes → Stepped → Grown
-afterStep nodes e =
+unfoldable pub after_step : Nodes → Stepped → Grown
+after_step nodes e =
     let made : Nodes → Verdict → Grown = λ n v. record { nodes = n; verdict = v; at = e.at; reached = e.reached } in
     cond e.accepted
-    (cond (ltb (length nodes.states) 512) (made (grownOf nodes e.at e.parent) Added) (made nodes Full))
+    (cond (ltb (length nodes.states) 512) (made (grown_of nodes e.at e.parent) Added) (made nodes Full))
     (made nodes Refused)
 
-unfoldable pub extendOf : Limits → Float → List KeepOut → Float → Nodes → State → Grown
-extendOf limits segment ks max nodes target = afterStep nodes (step_of limits segment ks max nodes.states target)
+unfoldable pub extend_of : Limits → Float → List KeepOut → Float → Nodes → State → Grown
+extend_of limits segment ks max nodes target = after_step nodes (step_of limits segment ks max nodes.states target)
 
 -- columns of 512 places
 abbrev pub Sized : List Float → List Float → List Float → List ℕ → Type 0
@@ -35,8 +35,8 @@ Sized az el feed parent = (length az ≡ 512) × (length el ≡ 512) × (length 
 pub record Extends (limits : Limits) (segment : Float) (ks : List KeepOut) (max : Float) (nodes : Nodes) (target : State) (r : Extended)
     (az el feed : List Float) (parent : List ℕ) : Type 0 where
   pub grown : Grown
-  pub is : grown ≡ extendOf limits segment ks max nodes target
-  pub tree : nodesIn r.count az el feed parent ≡ grown.nodes
+  pub is : grown ≡ extend_of limits segment ks max nodes target
+  pub tree : nodes_in r.count az el feed parent ≡ grown.nodes
   pub verdict : r.verdict ≡ grown.verdict
   pub at : r.at ≡ grown.at
   pub reached : r.reached ≡ grown.reached

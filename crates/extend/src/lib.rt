@@ -1,7 +1,7 @@
 // One step of a tree toward a target, appended in place (document 01, "RRT-Connect").
 ghost use Rattle.std.specs.Prelude.{◌≤◌, ◌<◌};
-ghost use Rattle.columns.specs.Columns.{columnsOf};
-ghost use Rattle.tree.specs.Table.{nodesIn};
+ghost use Rattle.columns.specs.Columns.{columns_of};
+ghost use Rattle.tree.specs.Table.{nodes_in};
 ghost use Rattle.extend.specs.Extend.{Sized, Extends};
 
 use fields::Limits;
@@ -44,7 +44,7 @@ pub fn extend<'a>(
     target: State,
 ) -> Extended
     requires { (0 < n) × (n ≤ 512) × Sized az.old el.old feed.old parent.old }
-    ensures { Extends limits segment (columnsOf kinds.now numbers.now keep_outs) max_distance (nodesIn n az.old el.old feed.old parent.old) target result az.new el.new feed.new parent.new }
+    ensures { Extends limits segment (columns_of kinds.now numbers.now keep_outs) max_distance (nodes_in n az.old el.old feed.old parent.old) target result az.new el.new feed.new parent.new }
 {
     let e = step::step(
         az,

@@ -5,5 +5,5 @@ use Rattle.state.specs.Distance.{distance_of}
 use Rattle.state.specs.declared.State.{State}
 use Rattle.fields.specs.declared.Goal.{Goal}
 
-unfoldable pub satisfiedOf : Goal → State → Bool
-satisfiedOf g s = le (distance_of s g.centre) g.radius
+unfoldable pub satisfied_of : Goal → State → Bool
+satisfied_of g s = le (distance_of s g.centre) g.radius

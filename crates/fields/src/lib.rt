@@ -1,9 +1,9 @@
 // What a setup gives beside keep-outs and start (document 01, "The mount"): limits, lengths and the goal, with the ranges that they are taken from.
 // Each type has a constructor that refuses bad numbers, and `is_good`, which says the same of a value that somebody else made.
 ghost use Rattle.std.specs.Prelude.{◌≡◌};
-ghost use Rattle.fields.specs.Ranges.{goodLimits, goodLength, goodGoal};
-ghost use Rattle.fields.specs.Made.{limitsOf, length_of, goalOf};
-ghost use Rattle.fields.specs.Satisfied.{satisfiedOf};
+ghost use Rattle.fields.specs.Ranges.{good_limits, good_length, good_goal};
+ghost use Rattle.fields.specs.Made.{limits_of, length_of, goal_of};
+ghost use Rattle.fields.specs.Satisfied.{satisfied_of};
 
 use state::State;
 
@@ -22,7 +22,7 @@ pub enum LimitsMade {
 
 impl Limits {
     pub fn new(low: State, high: State) -> LimitsMade
-        ensures { result ≡ limitsOf low high }
+        ensures { result ≡ limits_of low high }
     {
         let l = Limits { low, high };
         if l.is_good() {
@@ -32,7 +32,7 @@ impl Limits {
     }
 
     pub fn is_good(self) -> bool
-        ensures { result ≡ goodLimits self }
+        ensures { result ≡ good_limits self }
     {
         self.low.spans(self.high)
     }
@@ -66,7 +66,7 @@ impl Length {
     }
 
     pub fn is_good(self) -> bool
-        ensures { result ≡ goodLength self }
+        ensures { result ≡ good_length self }
     {
         state::inside(Length::LEAST, Length::MOST, self.value)
     }
@@ -91,7 +91,7 @@ impl Goal {
     pub const MOST_RADIUS: f64 = 4096.0;
 
     pub fn new(centre: State, radius: f64) -> GoalMade
-        ensures { result ≡ goalOf centre radius }
+        ensures { result ≡ goal_of centre radius }
     {
         let g = Goal { centre, radius };
         if g.is_good() {
@@ -101,7 +101,7 @@ impl Goal {
     }
 
     pub fn is_good(self) -> bool
-        ensures { result ≡ goodGoal self }
+        ensures { result ≡ good_goal self }
     {
         let centre = self.centre;
         if centre.is_good() {
@@ -111,7 +111,7 @@ impl Goal {
     }
 
     pub fn is_satisfied(self, s: State) -> bool
-        ensures { result ≡ satisfiedOf self s }
+        ensures { result ≡ satisfied_of self s }
     {
         s.distance(self.centre) <= self.radius
     }

@@ -18,25 +18,25 @@ unfoldable pub length_at : List Float → ℕ → Length
 length_at l i = record { value = number_at l i }
 
 -- azimuth, elevation, feed
-unfoldable pub stateAt : List Float → ℕ → State
-stateAt l i = record { az = number_at l i; el = number_at l (i + 1); feed = number_at l (i + 2) }
+unfoldable pub state_at : List Float → ℕ → State
+state_at l i = record { az = number_at l i; el = number_at l (i + 1); feed = number_at l (i + 2) }
 
 -- the centre, and then the radius
-unfoldable pub goalAt : List Float → ℕ → Goal
-goalAt l i = record { centre = stateAt l i; radius = number_at l (i + 3) }
+unfoldable pub goal_at : List Float → ℕ → Goal
+goal_at l i = record { centre = state_at l i; radius = number_at l (i + 3) }
 
 -- the first six numbers, low then high, per axis: document 01, "The mount", setup's fields in order
-unfoldable pub limitsIn : List Float → Limits
-limitsIn l =
+unfoldable pub limits_in : List Float → Limits
+limits_in l =
     record {
       low = record { az = number_at l 0; el = number_at l 2; feed = number_at l 4 };
       high = record { az = number_at l 1; el = number_at l 3; feed = number_at l 5 };
     }
 
 -- document 01, "The mount", setup's fields in order: limits, segment length, max_distance or connection_radius, start, goal
-abbrev pub fieldsIn : List Float → Fields
-fieldsIn l = record { limits = limitsIn l; segment = length_at l 6; reach = length_at l 7; start = stateAt l 8; goal = goalAt l 11 }
+abbrev pub fields_in_of : List Float → Fields
+fields_in_of l = record { limits = limits_in l; segment = length_at l 6; reach = length_at l 7; start = state_at l 8; goal = goal_at l 11 }
 
 -- the keep-out in the table's first place; it has 32 places, so that the default is never read
-unfoldable pub firstIn : KeepOuts → KeepOut
-firstIn t = (get_or t.slots 0 (record { held = Floor nan })).held
+unfoldable pub first_in : KeepOuts → KeepOut
+first_in t = (get_or t.slots 0 (record { held = Floor nan })).held

@@ -1,6 +1,6 @@
 // What the numbers of a script's line, or of a host's setup, stand for. The place is that of the first number.
 ghost use Rattle.std.specs.Prelude.{◌≡◌, ◌+◌};
-ghost use Rattle.given.specs.Given.{number_at, length_at, stateAt, goalAt, limitsIn, fieldsIn, firstIn};
+ghost use Rattle.given.specs.Given.{number_at, length_at, state_at, goal_at, limits_in, fields_in_of, first_in};
 
 use fields::{Goal, Length, Limits};
 use keep_out::KeepOut;
@@ -36,7 +36,7 @@ pub fn length(numbers: &[f64], i: usize) -> Length
 }
 
 pub fn state(numbers: &[f64], i: usize) -> State
-    ensures { result ≡ stateAt numbers.now i }
+    ensures { result ≡ state_at numbers.now i }
 {
     State {
         az: number(numbers, i),
@@ -46,7 +46,7 @@ pub fn state(numbers: &[f64], i: usize) -> State
 }
 
 pub fn goal(numbers: &[f64], i: usize) -> Goal
-    ensures { result ≡ goalAt numbers.now i }
+    ensures { result ≡ goal_at numbers.now i }
 {
     let centre = state(numbers, i);
     Goal {
@@ -57,7 +57,7 @@ pub fn goal(numbers: &[f64], i: usize) -> Goal
 
 // They come first on a line, low then high, per axis.
 pub fn limits(numbers: &[f64]) -> Limits
-    ensures { result ≡ limitsIn numbers.now }
+    ensures { result ≡ limits_in numbers.now }
 {
     let low = State {
         az: number(numbers, 0),
@@ -83,7 +83,7 @@ pub struct Fields {
 }
 
 pub fn fields_in(numbers: &[f64]) -> Fields
-    ensures { result ≡ fieldsIn numbers.now }
+    ensures { result ≡ fields_in_of numbers.now }
 {
     let limits = limits(numbers);
     let segment = length(numbers, 6);
@@ -101,7 +101,7 @@ pub fn fields_in(numbers: &[f64]) -> Fields
 
 // The keep-out of a line whose row asks for one: it comes first in the table.
 pub fn keep_out(table: KeepOuts) -> KeepOut
-    ensures { result ≡ firstIn table }
+    ensures { result ≡ first_in table }
 {
     let slot = table.slots[0];
     slot.held

@@ -52,6 +52,6 @@ module _ {B : Type 0} (none : B) (row : Verb → B) (verb : Verb) where
   none_in v (w ∷ vs) same (inr is) = none_in w vs (cc) is
 
   -- a table with nothing for these verbs has nothing for one of them
-  pub none-for : (vs : List Verb) → map row vs ≡ map (λ w. none) vs → OneOf (map tag vs) (tag verb) → none ≡ row verb
-  none-for [] same is = absurd is
-  none-for (v ∷ vs) same is = none_in v vs same is
+  pub none_for : (vs : List Verb) → map row vs ≡ map (λ w. none) vs → OneOf (map tag vs) (tag verb) → none ≡ row verb
+  none_for [] same is = absurd is
+  none_for (v ∷ vs) same is = none_in v vs same is

@@ -12,39 +12,39 @@ abbrev leaves : {A : Type 0} → A → Left A
 leaves v = record { made = true; planner = v }
 
 -- the planner has no such call, and is kept
-abbrev pub noCall : {A : Type 0} → A → Left A
-noCall v = record { made = false; planner = v }
+abbrev pub no_call : {A : Type 0} → A → Left A
+no_call v = record { made = false; planner = v }
 
 -- a tree planner's calls: before it, and after a setup, a keep-out and a solve
-unfoldable pub treeCall : {A : Type 0} → A → A → A → A → Verb → Left A
-treeCall before setup keepout solved Setup = leaves setup
-treeCall before setup keepout solved Keepout = leaves keepout
-treeCall before setup keepout solved Solve = leaves solved
-treeCall before setup keepout solved Tables = leaves before
-treeCall before setup keepout solved Construct = noCall before
-treeCall before setup keepout solved Goals = noCall before
-treeCall before setup keepout solved Query = noCall before
-treeCall before setup keepout solved Distance = noCall before
-treeCall before setup keepout solved Between = noCall before
-treeCall before setup keepout solved Steer = noCall before
-treeCall before setup keepout solved Valid = noCall before
-treeCall before setup keepout solved Steps = noCall before
-treeCall before setup keepout solved Motion = noCall before
-treeCall before setup keepout solved Other = noCall before
+unfoldable pub tree_call : {A : Type 0} → A → A → A → A → Verb → Left A
+tree_call before setup keepout solved Setup = leaves setup
+tree_call before setup keepout solved Keepout = leaves keepout
+tree_call before setup keepout solved Solve = leaves solved
+tree_call before setup keepout solved Tables = leaves before
+tree_call before setup keepout solved Construct = no_call before
+tree_call before setup keepout solved Goals = no_call before
+tree_call before setup keepout solved Query = no_call before
+tree_call before setup keepout solved Distance = no_call before
+tree_call before setup keepout solved Between = no_call before
+tree_call before setup keepout solved Steer = no_call before
+tree_call before setup keepout solved Valid = no_call before
+tree_call before setup keepout solved Steps = no_call before
+tree_call before setup keepout solved Motion = no_call before
+tree_call before setup keepout solved Other = no_call before
 
 -- PRM's: before it, and after a setup, a keep-out, a construction, and start and goal replaced; a query changes nothing
-unfoldable pub prmCall : {A : Type 0} → A → A → A → A → A → Verb → Left A
-prmCall before setup keepout constructed goals Setup = leaves setup
-prmCall before setup keepout constructed goals Keepout = leaves keepout
-prmCall before setup keepout constructed goals Construct = leaves constructed
-prmCall before setup keepout constructed goals Goals = leaves goals
-prmCall before setup keepout constructed goals Query = leaves before
-prmCall before setup keepout constructed goals Tables = leaves before
-prmCall before setup keepout constructed goals Solve = noCall before
-prmCall before setup keepout constructed goals Distance = noCall before
-prmCall before setup keepout constructed goals Between = noCall before
-prmCall before setup keepout constructed goals Steer = noCall before
-prmCall before setup keepout constructed goals Valid = noCall before
-prmCall before setup keepout constructed goals Steps = noCall before
-prmCall before setup keepout constructed goals Motion = noCall before
-prmCall before setup keepout constructed goals Other = noCall before
+unfoldable pub prm_call : {A : Type 0} → A → A → A → A → A → Verb → Left A
+prm_call before setup keepout constructed goals Setup = leaves setup
+prm_call before setup keepout constructed goals Keepout = leaves keepout
+prm_call before setup keepout constructed goals Construct = leaves constructed
+prm_call before setup keepout constructed goals Goals = leaves goals
+prm_call before setup keepout constructed goals Query = leaves before
+prm_call before setup keepout constructed goals Tables = leaves before
+prm_call before setup keepout constructed goals Solve = no_call before
+prm_call before setup keepout constructed goals Distance = no_call before
+prm_call before setup keepout constructed goals Between = no_call before
+prm_call before setup keepout constructed goals Steer = no_call before
+prm_call before setup keepout constructed goals Valid = no_call before
+prm_call before setup keepout constructed goals Steps = no_call before
+prm_call before setup keepout constructed goals Motion = no_call before
+prm_call before setup keepout constructed goals Other = no_call before

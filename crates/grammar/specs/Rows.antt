@@ -36,8 +36,8 @@ T = 1
 
 -- ---- what follows the words
 -- so many numbers, then `KO*`: a line has at most 40 keep-outs
-abbrev pub setupRow : ℕ → Row
-setupRow n =
+abbrev pub setup_row : ℕ → Row
+setup_row n =
     record {
       is_call = true;
       has_capacity = false;
@@ -48,8 +48,8 @@ setupRow n =
     }
 
 -- so many numbers
-abbrev pub numbersRow : ℕ → Row
-numbersRow n =
+abbrev pub numbers_row : ℕ → Row
+numbers_row n =
     record {
       is_call = true;
       has_capacity = false;
@@ -60,8 +60,8 @@ numbersRow n =
     }
 
 -- `CAP` or not, then `NUMBER*` or not
-abbrev pub listRow : Bool → Bool → Row
-listRow capacity list =
+abbrev pub list_row : Bool → Bool → Row
+list_row capacity list =
     record {
       is_call = true;
       has_capacity = capacity;
@@ -72,8 +72,8 @@ listRow capacity list =
     }
 
 -- `KO`
-abbrev pub keepOutRow : Row
-keepOutRow =
+abbrev pub keep_out_row : Row
+keep_out_row =
     record {
       is_call = true;
       has_capacity = false;
@@ -97,60 +97,60 @@ no_row =
 
 -- ---- the lines
 -- `mount`
-unfoldable pub mountRow : Verb → Row
-mountRow Setup = setupRow (LIM + SEG)
-mountRow Distance = numbersRow (S + S)
-mountRow Between = numbersRow (S + S + T)
-mountRow Steer = numbersRow (MAX + S + S)
-mountRow Valid = numbersRow S
-mountRow Steps = numbersRow (S + S)
-mountRow Motion = numbersRow (S + S)
-mountRow Keepout = no_row
-mountRow Solve = no_row
-mountRow Construct = no_row
-mountRow Goals = no_row
-mountRow Query = no_row
-mountRow Tables = no_row
-mountRow Other = no_row
+unfoldable pub mount_row : Verb → Row
+mount_row Setup = setup_row (LIM + SEG)
+mount_row Distance = numbers_row (S + S)
+mount_row Between = numbers_row (S + S + T)
+mount_row Steer = numbers_row (MAX + S + S)
+mount_row Valid = numbers_row S
+mount_row Steps = numbers_row (S + S)
+mount_row Motion = numbers_row (S + S)
+mount_row Keepout = no_row
+mount_row Solve = no_row
+mount_row Construct = no_row
+mount_row Goals = no_row
+mount_row Query = no_row
+mount_row Tables = no_row
+mount_row Other = no_row
 
 -- `rrt`, `connect` or `star`, by the numbers of its setup
-unfoldable pub treeRow : ℕ → Verb → Row
-treeRow n Setup = setupRow n
-treeRow n Keepout = keepOutRow
-treeRow n Solve = listRow true true
-treeRow n Tables = numbersRow 0
-treeRow n Construct = no_row
-treeRow n Goals = no_row
-treeRow n Query = no_row
-treeRow n Distance = no_row
-treeRow n Between = no_row
-treeRow n Steer = no_row
-treeRow n Valid = no_row
-treeRow n Steps = no_row
-treeRow n Motion = no_row
-treeRow n Other = no_row
+unfoldable pub tree_row : ℕ → Verb → Row
+tree_row n Setup = setup_row n
+tree_row n Keepout = keep_out_row
+tree_row n Solve = list_row true true
+tree_row n Tables = numbers_row 0
+tree_row n Construct = no_row
+tree_row n Goals = no_row
+tree_row n Query = no_row
+tree_row n Distance = no_row
+tree_row n Between = no_row
+tree_row n Steer = no_row
+tree_row n Valid = no_row
+tree_row n Steps = no_row
+tree_row n Motion = no_row
+tree_row n Other = no_row
 
 -- `prm`
-unfoldable pub prmRow : Verb → Row
-prmRow Setup = setupRow (LIM + SEG + CONNECT + S + S + RADIUS)
-prmRow Keepout = keepOutRow
-prmRow Construct = listRow false true
-prmRow Goals = numbersRow (S + S + RADIUS)
-prmRow Query = listRow true false
-prmRow Tables = numbersRow 0
-prmRow Solve = no_row
-prmRow Distance = no_row
-prmRow Between = no_row
-prmRow Steer = no_row
-prmRow Valid = no_row
-prmRow Steps = no_row
-prmRow Motion = no_row
-prmRow Other = no_row
+unfoldable pub prm_row : Verb → Row
+prm_row Setup = setup_row (LIM + SEG + CONNECT + S + S + RADIUS)
+prm_row Keepout = keep_out_row
+prm_row Construct = list_row false true
+prm_row Goals = numbers_row (S + S + RADIUS)
+prm_row Query = list_row true false
+prm_row Tables = numbers_row 0
+prm_row Solve = no_row
+prm_row Distance = no_row
+prm_row Between = no_row
+prm_row Steer = no_row
+prm_row Valid = no_row
+prm_row Steps = no_row
+prm_row Motion = no_row
+prm_row Other = no_row
 
 unfoldable pub row_of : Planner → Verb → Row
-row_of Mount verb = mountRow verb
-row_of Rrt verb = treeRow (LIM + SEG + MAX + S + S + RADIUS) verb
-row_of Connect verb = treeRow (LIM + SEG + MAX + S + S + RADIUS) verb
-row_of Star verb = treeRow (LIM + SEG + MAX + SEARCH + S + S + RADIUS) verb
-row_of Prm verb = prmRow verb
+row_of Mount verb = mount_row verb
+row_of Rrt verb = tree_row (LIM + SEG + MAX + S + S + RADIUS) verb
+row_of Connect verb = tree_row (LIM + SEG + MAX + S + S + RADIUS) verb
+row_of Star verb = tree_row (LIM + SEG + MAX + SEARCH + S + S + RADIUS) verb
+row_of Prm verb = prm_row verb
 row_of OtherPlanner verb = no_row

@@ -14,39 +14,39 @@ bytes_of text.[] = []
 bytes_of (text.◌∷◌ c name) = code c ∷ bytes_of name
 
 -- whether two lists hold the same bytes
-unfoldable pub sameOf : List ℕ → List ℕ → Bool
-sameOf [] [] = true
-sameOf [] (b ∷ bs) = false
-sameOf (a ∷ l) [] = false
-sameOf (a ∷ l) (b ∷ bs) = eqb a b && sameOf l bs
+unfoldable pub same_of : List ℕ → List ℕ → Bool
+same_of [] [] = true
+same_of [] (b ∷ bs) = false
+same_of (a ∷ l) [] = false
+same_of (a ∷ l) (b ∷ bs) = eqb a b && same_of l bs
 
-abbrev pub isWord : List ℕ → String → Bool
-isWord word name = sameOf word (bytes_of name)
+abbrev pub is_word : List ℕ → String → Bool
+is_word word name = same_of word (bytes_of name)
 
-unfoldable pub plannerOf : List ℕ → Planner
-plannerOf word =
-    cond (isWord word "mount") planner.Mount
-    (cond (isWord word "rrt") planner.Rrt
-    (cond (isWord word "connect") planner.Connect
-    (cond (isWord word "star") planner.Star
-    (cond (isWord word "prm") planner.Prm planner.Other))))
+unfoldable pub planner_named : List ℕ → Planner
+planner_named word =
+    cond (is_word word "mount") planner.Mount
+    (cond (is_word word "rrt") planner.Rrt
+    (cond (is_word word "connect") planner.Connect
+    (cond (is_word word "star") planner.Star
+    (cond (is_word word "prm") planner.Prm planner.Other))))
 
 -- the verbs of the mount's own calls
-unfoldable pub leafVerbOf : List ℕ → Verb
-leafVerbOf word =
-    cond (isWord word "distance") verb.Distance
-    (cond (isWord word "between") verb.Between
-    (cond (isWord word "steer") verb.Steer
-    (cond (isWord word "valid") verb.Valid
-    (cond (isWord word "steps") verb.Steps
-    (cond (isWord word "motion") verb.Motion verb.Other)))))
+unfoldable pub leaf_verb_named : List ℕ → Verb
+leaf_verb_named word =
+    cond (is_word word "distance") verb.Distance
+    (cond (is_word word "between") verb.Between
+    (cond (is_word word "steer") verb.Steer
+    (cond (is_word word "valid") verb.Valid
+    (cond (is_word word "steps") verb.Steps
+    (cond (is_word word "motion") verb.Motion verb.Other)))))
 
-unfoldable pub verbOf : List ℕ → Verb
-verbOf word =
-    cond (isWord word "setup") verb.Setup
-    (cond (isWord word "keepout") verb.Keepout
-    (cond (isWord word "solve") verb.Solve
-    (cond (isWord word "construct") verb.Construct
-    (cond (isWord word "goals") verb.Goals
-    (cond (isWord word "query") verb.Query
-    (cond (isWord word "tables") verb.Tables (leafVerbOf word)))))))
+unfoldable pub verb_named : List ℕ → Verb
+verb_named word =
+    cond (is_word word "setup") verb.Setup
+    (cond (is_word word "keepout") verb.Keepout
+    (cond (is_word word "solve") verb.Solve
+    (cond (is_word word "construct") verb.Construct
+    (cond (is_word word "goals") verb.Goals
+    (cond (is_word word "query") verb.Query
+    (cond (is_word word "tables") verb.Tables (leaf_verb_named word)))))))

@@ -1,7 +1,7 @@
 // The rows of the table of calls: which words a line starts with, and what follows them. A new call is a verb and its row.
 ghost use Rattle.std.specs.Prelude.{◌≡◌};
-ghost use Rattle.grammar.specs.Rows.{setupRow, numbersRow, listRow, keepOutRow, no_row, mountRow, treeRow, prmRow, row_of};
-ghost use Rattle.grammar.specs.Words.{plannerOf, verbOf, leafVerbOf};
+ghost use Rattle.grammar.specs.Rows.{setup_row, numbers_row, list_row, keep_out_row, no_row, mount_row, tree_row, prm_row, row_of};
+ghost use Rattle.grammar.specs.Words.{planner_named, verb_named, leaf_verb_named};
 
 #[derive(Drop)]
 pub enum Planner {
@@ -48,7 +48,7 @@ impl Row {
 
     // Limits, a segment length and what the planner has more of numbers, and any keep-outs.
     fn setup(numbers: u64) -> Row
-        ensures { result ≡ setupRow numbers }
+        ensures { result ≡ setup_row numbers }
     {
         Row {
             is_call: true,
@@ -61,7 +61,7 @@ impl Row {
     }
 
     fn of_numbers(numbers: u64) -> Row
-        ensures { result ≡ numbersRow numbers }
+        ensures { result ≡ numbers_row numbers }
     {
         Row {
             is_call: true,
@@ -74,7 +74,7 @@ impl Row {
     }
 
     fn of_list(has_capacity: bool, has_list: bool) -> Row
-        ensures { result ≡ listRow has_capacity has_list }
+        ensures { result ≡ list_row has_capacity has_list }
     {
         Row {
             is_call: true,
@@ -87,7 +87,7 @@ impl Row {
     }
 
     fn of_keep_out() -> Row
-        ensures { result ≡ keepOutRow }
+        ensures { result ≡ keep_out_row }
     {
         Row {
             is_call: true,
@@ -126,7 +126,7 @@ impl Row {
     }
 
     fn of_mount(verb: Verb) -> Row
-        ensures { result ≡ mountRow verb }
+        ensures { result ≡ mount_row verb }
     {
         match verb {
             Verb::Setup => Row::setup(7),
@@ -141,7 +141,7 @@ impl Row {
     }
 
     fn of_tree(verb: Verb, numbers: u64) -> Row
-        ensures { result ≡ treeRow numbers verb }
+        ensures { result ≡ tree_row numbers verb }
     {
         match verb {
             Verb::Setup => Row::setup(numbers),
@@ -153,7 +153,7 @@ impl Row {
     }
 
     fn of_prm(verb: Verb) -> Row
-        ensures { result ≡ prmRow verb }
+        ensures { result ≡ prm_row verb }
     {
         match verb {
             Verb::Setup => Row::setup(15),
@@ -168,7 +168,7 @@ impl Row {
 }
 
 pub fn planner_of(word: &[u8]) -> Planner
-    ensures { result ≡ plannerOf word.now }
+    ensures { result ≡ planner_named word.now }
 {
     if check::same(word, b"mount") {
         return Planner::Mount;
@@ -189,7 +189,7 @@ pub fn planner_of(word: &[u8]) -> Planner
 }
 
 pub fn verb_of(word: &[u8]) -> Verb
-    ensures { result ≡ verbOf word.now }
+    ensures { result ≡ verb_named word.now }
 {
     if check::same(word, b"setup") {
         return Verb::Setup;
@@ -217,7 +217,7 @@ pub fn verb_of(word: &[u8]) -> Verb
 
 // The verbs of the mount's own calls.
 fn leaf_verb_of(word: &[u8]) -> Verb
-    ensures { result ≡ leafVerbOf word.now }
+    ensures { result ≡ leaf_verb_named word.now }
 {
     if check::same(word, b"distance") {
         return Verb::Distance;

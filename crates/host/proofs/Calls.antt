@@ -15,7 +15,7 @@ use Rattle.roadmap.specs.Map.{Milestone}
 use Rattle.prm.specs.Planner.{Given}
 use Rattle.parking.specs.Chart.{Charts}
 use Rattle.parking.specs.declared.Charted.{Charted}
-use Rattle.host.specs.Call.{callWith, Reports, Called}
+use Rattle.host.specs.Call.{call_with, Reports, Called}
 use Rattle.host.specs.declared.Report.{Report}
 
 -- what was charted, with its answer as a number
@@ -28,41 +28,41 @@ charted o r new w a is-a = record { answer = is-a ∙ ap number_of w.answer; cou
 module _ {P A : Type 0} (solve : Planner P A → List Float → List Float → Outcome P A) (tell : Planner P A → KeepOuts → Told P A) (samples old : List Float)
     (kinds : List ℕ) (numbers : List Float) (count : ℕ) (table : KeepOuts) (listed : Listed kinds numbers count table) {all : Bool} (known : Bool) (is : known ≡ all) where
   abbrev call : KeepOuts → Outcome P A
-  call t = callWith solve all (tell unset t) samples old
+  call t = call_with solve all (tell unset t) samples old
 
   abbrev Calls : Report → List Float → Type 0
   Calls r new = Called call kinds numbers count r new
 
-  gives : (r : Report) (new : List Float) → Reports (callWith solve known (tell unset table) samples old) r new → Calls r new
+  gives : (r : Report) (new : List Float) → Reports (call_with solve known (tell unset table) samples old) r new → Calls r new
   gives r new w = record { table = table; listed = listed; gives = rw (← is) w }
 
-  unknown : known ≡ false → Reports (callWith solve known (tell unset table) samples old) (record { answer = 2; count = 0; taken = 0 }) old
-  unfolding callWith
+  unknown : known ≡ false → Reports (call_with solve known (tell unset table) samples old) (record { answer = 2; count = 0; taken = 0 }) old
+  unfolding call_with
   unknown e = rw e (record { answer = refl; count = refl; taken = refl; memory = refl })
 
-  pub call-unknown : known ≡ false → (r : Report) → r ≡ record { answer = 2; count = 0; taken = 0 } → Calls r old
-  call-unknown e r is-r = rw is-r (gives _ _ (unknown e))
+  pub call_unknown : known ≡ false → (r : Report) → r ≡ record { answer = 2; count = 0; taken = 0 } → Calls r old
+  call_unknown e r is-r = rw is-r (gives _ _ (unknown e))
 
   module _ (e : known ≡ true) (fresh : Planner P A) (is-new : fresh ≡ unset) (made : Told P A) (is_made : made ≡ tell fresh table) (n : ℕ) (is-n : n ≡ number_of made.answer) where
     told : tell unset table ≡ made
     told = sym (is_made ∙ ap (λ (p : Planner P A). tell p table) is-new)
 
-    refused : (n ≡ 0 → ⊥) → Reports (callWith solve known made samples old) (record { answer = n; count = 0; taken = 0 }) old
-    unfolding callWith
+    refused : (n ≡ 0 → ⊥) → Reports (call_with solve known made samples old) (record { answer = n; count = 0; taken = 0 }) old
+    unfolding call_with
     refused h = rw (e, ← is-n, ne_eqb n 0 h) (record { answer = is-n; count = refl; taken = refl; memory = refl })
 
-    pub call-refused : (n ≡ 0 → ⊥) → (r : Report) → r ≡ record { answer = n; count = 0; taken = 0 } → Calls r old
-    call-refused h r is-r = rw is-r (gives _ _ (rw told (refused h)))
+    pub call_refused : (n ≡ 0 → ⊥) → (r : Report) → r ≡ record { answer = n; count = 0; taken = 0 } → Calls r old
+    call_refused h r is-r = rw is-r (gives _ _ (rw told (refused h)))
 
     reported :
-        n ≡ 0 → (r : Report) (new : List Float) → Reports (solve made.planner samples old) r new → Reports (callWith solve known made samples old) r new
-    unfolding callWith
+        n ≡ 0 → (r : Report) (new : List Float) → Reports (solve made.planner samples old) r new → Reports (call_with solve known made samples old) r new
+    unfolding call_with
     reported z r new w = rw (e, ← is-n, eq-eqb n 0 z) w
 
-    pub call-reported : n ≡ 0 → (r : Report) (new : List Float) → Reports (solve made.planner samples old) r new → Calls r new
-    call-reported z r new w = gives _ _ (rw told (reported z r new w))
+    pub call_reported : n ≡ 0 → (r : Report) (new : List Float) → Reports (solve made.planner samples old) r new → Calls r new
+    call_reported z r new w = gives _ _ (rw told (reported z r new w))
 
-    pub call-solved :
+    pub call_solved :
         n ≡ 0 → (o : Outcome P A) → o ≡ solve made.planner samples old → (a : ℕ) → a ≡ number_of o.answer →
         Calls (record { answer = a; count = o.count; taken = o.taken }) o.route
-    call-solved z o is-o a is-a = call-reported z _ _ (rw (← is-o) (record { answer = is-a; count = refl; taken = refl; memory = refl }))
+    call_solved z o is-o a is-a = call_reported z _ _ (rw (← is-o) (record { answer = is-a; count = refl; taken = refl; memory = refl }))

@@ -5,11 +5,11 @@ use Rattle.answer.specs.Number.{number_of}
 use Rattle.answer.specs.declared.Answer.TheVariants.{BadInput}
 use Rattle.keep_out_table.specs.declared.KeepOuts.{KeepOuts}
 use Rattle.tree.specs.Table.{Nodes}
-use Rattle.given.specs.Given.{fieldsIn}
+use Rattle.given.specs.Given.{fields_in_of}
 use Rattle.listing.specs.Table.{Listed, known_of}
 use Rattle.plan.specs.Plan.{Plan, Planner, unset}
 use Rattle.plan.specs.Setup.{Told}
-use Rattle.plan.specs.Solve.{Outcome, refusedOf}
+use Rattle.plan.specs.Solve.{Outcome, refused_of}
 use Rattle.rrt.specs.Planner as rrt
 use Rattle.rrt.specs.Solve as rrt-solve
 use Rattle.rrt_connect.specs.Planner as connect
@@ -22,49 +22,49 @@ use Rattle.rrt_star.specs.Solve as star-solve
 use Rattle.roadmap.specs.Map.{Milestone}
 use Rattle.prm.specs.Planner as prm
 use Rattle.prm.specs.Planner.{Given}
-use Rattle.parking.specs.Park.{buildOf}
-use Rattle.parking.specs.Chart.{chartOf}
+use Rattle.parking.specs.Park.{build_of}
+use Rattle.parking.specs.Chart.{chart_of}
 use Rattle.host.specs.declared.Report.{Report}
 
 -- a planner that is set up and solves, where the kinds are known; a refusal keeps the route
-unfoldable pub callWith : {P A : Type 0} → (Planner P A → List Float → List Float → Outcome P A) → Bool → Told P A → List Float → List Float → Outcome P A
-callWith solve known told samples route =
+unfoldable pub call_with : {P A : Type 0} → (Planner P A → List Float → List Float → Outcome P A) → Bool → Told P A → List Float → List Float → Outcome P A
+call_with solve known told samples route =
     let solved = solve told.planner samples route in
-    let called = cond (eqb (number_of told.answer) 0) solved (refusedOf told.planner told.answer route) in
-    cond known called (refusedOf unset BadInput route)
+    let called = cond (eqb (number_of told.answer) 0) solved (refused_of told.planner told.answer route) in
+    cond known called (refused_of unset BadInput route)
 
 -- RRT's setup, and the call
-abbrev pub rrtTold : List Float → rrt.View → KeepOuts → Told Plan Nodes
-rrtTold l planner table = let f = fieldsIn l in rrt.setupOf planner f.limits f.segment f.reach f.start f.goal table
+abbrev pub rrt_told : List Float → rrt.View → KeepOuts → Told Plan Nodes
+rrt_told l planner table = let f = fields_in_of l in rrt.setup_of planner f.limits f.segment f.reach f.start f.goal table
 
-unfoldable pub rrtCall : List Float → List ℕ → ℕ → List Float → List Float → KeepOuts → Outcome Plan Nodes
-rrtCall l kinds count samples route table = callWith rrt-solve.solveOf (known_of kinds count) (rrtTold l rrt.newOf table) samples route
+unfoldable pub rrt_call : List Float → List ℕ → ℕ → List Float → List Float → KeepOuts → Outcome Plan Nodes
+rrt_call l kinds count samples route table = call_with rrt-solve.solve_of (known_of kinds count) (rrt_told l rrt.new_of table) samples route
 
 -- RRT-Connect's
-abbrev pub connectTold : List Float → connect.View → KeepOuts → Told Plan Trees
-connectTold l planner table = let f = fieldsIn l in connect.setupOf planner f.limits f.segment f.reach f.start f.goal table
+abbrev pub connect_told : List Float → connect.View → KeepOuts → Told Plan Trees
+connect_told l planner table = let f = fields_in_of l in connect.setup_of planner f.limits f.segment f.reach f.start f.goal table
 
-unfoldable pub connectCall : List Float → List ℕ → ℕ → List Float → List Float → KeepOuts → Outcome Plan Trees
-connectCall l kinds count samples route table = callWith connect-solve.solveOf (known_of kinds count) (connectTold l connect.newOf table) samples route
+unfoldable pub connect_call : List Float → List ℕ → ℕ → List Float → List Float → KeepOuts → Outcome Plan Trees
+connect_call l kinds count samples route table = call_with connect-solve.solve_of (known_of kinds count) (connect_told l connect.new_of table) samples route
 
 -- RRT*'s, with the search radius
-abbrev pub starTold : List Float → Float → star.View → KeepOuts → Told StarPlan Costed
-starTold l radius planner table =
-    let f = fieldsIn l in
-    star.setupOf planner f.limits f.segment f.reach (record { value = radius }) f.start f.goal table
+abbrev pub star_told : List Float → Float → star.View → KeepOuts → Told StarPlan Costed
+star_told l radius planner table =
+    let f = fields_in_of l in
+    star.setup_of planner f.limits f.segment f.reach (record { value = radius }) f.start f.goal table
 
-unfoldable pub starCall : List Float → Float → List ℕ → ℕ → List Float → List Float → KeepOuts → Outcome StarPlan Costed
-starCall l radius kinds count samples route table =
-    callWith star-solve.solveOf (known_of kinds count) (starTold l radius star.newOf table) samples route
+unfoldable pub star_call : List Float → Float → List ℕ → ℕ → List Float → List Float → KeepOuts → Outcome StarPlan Costed
+star_call l radius kinds count samples route table =
+    call_with star-solve.solve_of (known_of kinds count) (star_told l radius star.new_of table) samples route
 
 -- PRM's, which is a construction and its queries
-abbrev pub prmTold : List Float → prm.View → KeepOuts → Told Given (List Milestone)
-prmTold l planner table = let f = fieldsIn l in prm.setupOf planner f.limits f.segment f.reach f.start f.goal table
+abbrev pub prm_told : List Float → prm.View → KeepOuts → Told Given (List Milestone)
+prm_told l planner table = let f = fields_in_of l in prm.setup_of planner f.limits f.segment f.reach f.start f.goal table
 
 -- the kinds of all rows that are named are looked at first
-unfoldable pub prmCall : List Float → List ℕ → List Float → ℕ → ℕ → List Float → ℕ → List Float → KeepOuts → Outcome Given (List Milestone)
-prmCall l kinds numbers count added samples queries route table =
-    callWith (chartOf (buildOf kinds numbers count added) queries) (known_of kinds (count + added)) (prmTold l prm.newOf table) samples route
+unfoldable pub prm_call : List Float → List ℕ → List Float → ℕ → ℕ → List Float → ℕ → List Float → KeepOuts → Outcome Given (List Milestone)
+prm_call l kinds numbers count added samples queries route table =
+    call_with (chart_of (build_of kinds numbers count added) queries) (known_of kinds (count + added)) (prm_told l prm.new_of table) samples route
 
 -- what is reported of an outcome, and the route at exit
 pub record Reports {P A : Type 0} (o : Outcome P A) (r : Report) (new : List Float) : Type 0 where

@@ -1,6 +1,6 @@
 // The planners for a host in C or Rust, and for the benchmark: a setup and a solve, or a roadmap and its queries, in one call on plain numbers.
 ghost use Rattle.std.specs.Prelude.{◌≡◌};
-ghost use Rattle.host.specs.Call.{Called, rrtCall, connectCall, starCall, prmCall};
+ghost use Rattle.host.specs.Call.{Called, rrt_call, connect_call, star_call, prm_call};
 
 use fields::Length;
 use prm::Prm;
@@ -40,7 +40,7 @@ pub extern "C" fn rindmosaic_rrt<'a>(
     samples: &'a [f64],
     route: &mut [f64],
 ) -> Report
-    ensures { Called (rrtCall setup.now kinds.now keep_outs samples.now route.old) kinds.now numbers.now keep_outs result route.new }
+    ensures { Called (rrt_call setup.now kinds.now keep_outs samples.now route.old) kinds.now numbers.now keep_outs result route.new }
 {
     let f = given::fields_in(setup);
     let table = listing::table_of(kinds, numbers, keep_outs);
@@ -72,7 +72,7 @@ pub extern "C" fn rindmosaic_connect<'a>(
     samples: &'a [f64],
     route: &mut [f64],
 ) -> Report
-    ensures { Called (connectCall setup.now kinds.now keep_outs samples.now route.old) kinds.now numbers.now keep_outs result route.new }
+    ensures { Called (connect_call setup.now kinds.now keep_outs samples.now route.old) kinds.now numbers.now keep_outs result route.new }
 {
     let f = given::fields_in(setup);
     let table = listing::table_of(kinds, numbers, keep_outs);
@@ -105,7 +105,7 @@ pub extern "C" fn rindmosaic_star<'a>(
     samples: &'a [f64],
     route: &mut [f64],
 ) -> Report
-    ensures { Called (starCall setup.now search_radius kinds.now keep_outs samples.now route.old) kinds.now numbers.now keep_outs result route.new }
+    ensures { Called (star_call setup.now search_radius kinds.now keep_outs samples.now route.old) kinds.now numbers.now keep_outs result route.new }
 {
     let f = given::fields_in(setup);
     let table = listing::table_of(kinds, numbers, keep_outs);
@@ -146,7 +146,7 @@ pub extern "C" fn rindmosaic_prm<'a>(
     queries: u8,
     route: &mut [f64],
 ) -> Report
-    ensures { Called (prmCall setup.now kinds.now numbers.now keep_outs added samples.now queries route.old) kinds.now numbers.now keep_outs result route.new }
+    ensures { Called (prm_call setup.now kinds.now numbers.now keep_outs added samples.now queries route.old) kinds.now numbers.now keep_outs result route.new }
 {
     let f = given::fields_in(setup);
     let table = listing::table_of(kinds, numbers, keep_outs);

@@ -3,8 +3,8 @@ use Rattle.std.specs.Prelude.{◌+◌, false, cond, ltb}
 use Rattle.input.specs.declared.Input.{Input}
 
 -- before the first byte: none has been read
-unfoldable pub newOf : Input
-newOf = record { at = 0; end = 0; ended = false }
+unfoldable pub new_of : Input
+new_of = record { at = 0; end = 0; ended = false }
 
 -- past the next byte; the last is not passed
 unfoldable pub next_of : Input → Input

@@ -1,6 +1,6 @@
 // Standard input, byte after byte, through a buffer that the caller lends.
 ghost use Rattle.std.specs.Prelude.{◌≡◌};
-ghost use Rattle.input.specs.Input.{newOf, next_of};
+ghost use Rattle.input.specs.Input.{new_of, next_of};
 
 use libc::STDIN_FILENO;
 
@@ -25,7 +25,7 @@ pub struct Peeked {
 impl Input {
     // Before the first byte.
     pub fn new() -> Input
-        ensures { result ≡ newOf }
+        ensures { result ≡ new_of }
     {
         Input {
             at: 0,

@@ -2,22 +2,22 @@
 use Rattle.std.specs.Prelude.{Bool, false, ◌||◌, List, [], ◌∷◌, Float}
 use Rattle.std.specs.Float.{binary64}
 use Rattle.std.specs.Float.Ieee.{add, sub, mul, lt, le}
-use Rattle.state.specs.Ranges.{withinOf}
+use Rattle.state.specs.Ranges.{within_of}
 use Rattle.state.specs.declared.State.{State}
 use Rattle.keep_out.specs.declared.KeepOut.{KeepOut}
 use Rattle.keep_out.specs.declared.KeepOut.TheVariants.{Box, Disc, Floor}
 
 -- dx * dx + dy * dy, each operation rounded
-abbrev pub squaresOf : Float → Float → Float
-squaresOf dx dy = add binary64 (mul binary64 dx dx) (mul binary64 dy dy)
+abbrev pub squares_of : Float → Float → Float
+squares_of dx dy = add binary64 (mul binary64 dx dx) (mul binary64 dy dy)
 
 -- A box: faces belong to it. A disc: dx * dx + dy * dy is at most r * r; dx and dy are state minus centre. A floor: elevation strictly below it.
-unfoldable pub coversOf : KeepOut → State → Bool
-coversOf (Box low high) s = withinOf low high s
-coversOf (Disc az el r) s = le (squaresOf (sub binary64 s.az az) (sub binary64 s.el el)) (mul binary64 r r)
-coversOf (Floor el) s = lt s.el el
+unfoldable pub covers_of : KeepOut → State → Bool
+covers_of (Box low high) s = within_of low high s
+covers_of (Disc az el r) s = le (squares_of (sub binary64 s.az az) (sub binary64 s.el el)) (mul binary64 r r)
+covers_of (Floor el) s = lt s.el el
 
 -- one of the keep-outs covers the state
-unfoldable pub coveredOf : List KeepOut → State → Bool
-coveredOf [] s = false
-coveredOf (k ∷ ks) s = coversOf k s || coveredOf ks s
+unfoldable pub covered_of : List KeepOut → State → Bool
+covered_of [] s = false
+covered_of (k ∷ ks) s = covers_of k s || covered_of ks s

@@ -3,7 +3,7 @@
 use Rattle.std.specs.Prelude.{Bool, ◌&&◌, cond, Float}
 use Rattle.std.specs.Float.{binary64}
 use Rattle.std.specs.Float.Ieee.{of_bits}
-use Rattle.state.specs.Ranges.{insideOf, coordinateOf, goodSpan}
+use Rattle.state.specs.Ranges.{inside_of, coordinate_of, good_span}
 use Rattle.state.specs.declared.State.{State}
 use Rattle.keep_out.specs.declared.KeepOut.{KeepOut}
 use Rattle.keep_out.specs.declared.KeepOut.TheVariants.{Box, Disc, Floor}
@@ -11,28 +11,28 @@ use Rattle.keep_out.specs.declared.KeepOutMade.{KeepOutMade}
 use Rattle.keep_out.specs.declared.KeepOutMade.TheVariants as made
 
 -- 0 and 1,024
-abbrev pub leastRadius : Float
-leastRadius = of_bits binary64 0
+abbrev pub least_radius : Float
+least_radius = of_bits binary64 0
 
-abbrev pub mostRadius : Float
-mostRadius = of_bits binary64 0x4090_0000_0000_0000
+abbrev pub most_radius : Float
+most_radius = of_bits binary64 0x4090_0000_0000_0000
 
-unfoldable pub goodDisc : Float → Float → Float → Bool
-goodDisc az el r = coordinateOf az && coordinateOf el && insideOf leastRadius mostRadius r
+unfoldable pub good_disc : Float → Float → Float → Bool
+good_disc az el r = coordinate_of az && coordinate_of el && inside_of least_radius most_radius r
 
-unfoldable pub goodKeepOut : KeepOut → Bool
-goodKeepOut (Box low high) = goodSpan low high
-goodKeepOut (Disc az el r) = goodDisc az el r
-goodKeepOut (Floor el) = coordinateOf el
+unfoldable pub good_keep_out : KeepOut → Bool
+good_keep_out (Box low high) = good_span low high
+good_keep_out (Disc az el r) = good_disc az el r
+good_keep_out (Floor el) = coordinate_of el
 
 unfoldable pub made_of : KeepOut → KeepOutMade
-made_of k = cond (goodKeepOut k) (made.Good k) made.Bad
+made_of k = cond (good_keep_out k) (made.Good k) made.Bad
 
-abbrev pub boxOf : State → State → KeepOutMade
-boxOf low high = made_of (Box low high)
+abbrev pub box_of : State → State → KeepOutMade
+box_of low high = made_of (Box low high)
 
-abbrev pub discOf : Float → Float → Float → KeepOutMade
-discOf az el r = made_of (Disc az el r)
+abbrev pub disc_of : Float → Float → Float → KeepOutMade
+disc_of az el r = made_of (Disc az el r)
 
-abbrev pub floorOf : Float → KeepOutMade
-floorOf el = made_of (Floor el)
+abbrev pub floor_of : Float → KeepOutMade
+floor_of el = made_of (Floor el)

@@ -1,7 +1,7 @@
 // Keep-outs (document 01, "The mount"): places that the dish stays out of.
 ghost use Rattle.std.specs.Prelude.{◌≡◌};
-ghost use Rattle.keep_out.specs.Covers.{coversOf};
-ghost use Rattle.keep_out.specs.Good.{goodDisc, goodKeepOut, made_of, boxOf, discOf, floorOf};
+ghost use Rattle.keep_out.specs.Covers.{covers_of};
+ghost use Rattle.keep_out.specs.Good.{good_disc, good_keep_out, made_of, box_of, disc_of, floor_of};
 
 use state::State;
 
@@ -38,25 +38,25 @@ impl KeepOut {
     }
 
     pub fn new_box(low: State, high: State) -> KeepOutMade
-        ensures { result ≡ boxOf low high }
+        ensures { result ≡ box_of low high }
     {
         KeepOut::Box { low, high }.made()
     }
 
     pub fn new_disc(az: f64, el: f64, radius: f64) -> KeepOutMade
-        ensures { result ≡ discOf az el radius }
+        ensures { result ≡ disc_of az el radius }
     {
         KeepOut::Disc { az, el, radius }.made()
     }
 
     pub fn new_floor(el: f64) -> KeepOutMade
-        ensures { result ≡ floorOf el }
+        ensures { result ≡ floor_of el }
     {
         KeepOut::Floor(el).made()
     }
 
     fn is_disc(az: f64, el: f64, radius: f64) -> bool
-        ensures { result ≡ goodDisc az el radius }
+        ensures { result ≡ good_disc az el radius }
     {
         if State::is_coordinate(az) {
             if State::is_coordinate(el) {
@@ -67,7 +67,7 @@ impl KeepOut {
     }
 
     pub fn is_good(self) -> bool
-        ensures { result ≡ goodKeepOut self }
+        ensures { result ≡ good_keep_out self }
     {
         match self {
             KeepOut::Box { low, high } => low.spans(high),
@@ -77,7 +77,7 @@ impl KeepOut {
     }
 
     pub fn covers(self, s: State) -> bool
-        ensures { result ≡ coversOf self s }
+        ensures { result ≡ covers_of self s }
     {
         match self {
             KeepOut::Box { low, high } => s.within(low, high),

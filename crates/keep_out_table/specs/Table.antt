@@ -12,15 +12,15 @@ abbrev pub held_of : Slot → KeepOut
 held_of slot = slot.held
 
 -- the keep-outs of the first count places; all where the count is beyond the table
-unfoldable pub keepOutsOf : KeepOuts → List KeepOut
-keepOutsOf t = map held_of (take t.count t.slots)
+unfoldable pub keep_outs_of : KeepOuts → List KeepOut
+keep_outs_of t = map held_of (take t.count t.slots)
 
-unfoldable pub emptyTable : KeepOuts
-emptyTable = record { slots = replicate 32 (record { held = Floor (of_bits binary64 0) }); count = 0 }
+unfoldable pub empty_table : KeepOuts
+empty_table = record { slots = replicate 32 (record { held = Floor (of_bits binary64 0) }); count = 0 }
 
 -- one keep-out more in the next place, or no room for it
-unfoldable pub withOf : KeepOuts → KeepOut → Longer
-withOf t k =
+unfoldable pub with_of : KeepOuts → KeepOut → Longer
+with_of t k =
     cond (ltb t.count 32)
     (record { room = true; table = record { slots = set t.slots t.count (record { held = k }); count = t.count + 1 } })
     (record { room = false; table = t })

@@ -1,8 +1,8 @@
 // The table of at most 32 keep-outs (document 01, "The mount").
 ghost use Rattle.std.specs.Prelude.{◌≡◌, min};
-ghost use Rattle.keep_out.specs.Covers.{coveredOf};
-ghost use Rattle.keep_out_table.specs.Table.{keepOutsOf, emptyTable, withOf};
-ghost use Rattle.keep_out_table.specs.Good.{goodTable};
+ghost use Rattle.keep_out.specs.Covers.{covered_of};
+ghost use Rattle.keep_out_table.specs.Table.{keep_outs_of, empty_table, with_of};
+ghost use Rattle.keep_out_table.specs.Good.{good_table};
 
 use keep_out::KeepOut;
 use state::State;
@@ -41,7 +41,7 @@ impl KeepOuts {
     }
 
     pub fn new() -> KeepOuts
-        ensures { result ≡ emptyTable }
+        ensures { result ≡ empty_table }
     {
         let slot = Slot {
             held: KeepOut::Floor(0.0),
@@ -53,7 +53,7 @@ impl KeepOuts {
     }
 
     pub fn with(self, k: KeepOut) -> Longer
-        ensures { result ≡ withOf self k }
+        ensures { result ≡ with_of self k }
     {
         let n = self.count;
         let mut table = self;
@@ -67,7 +67,7 @@ impl KeepOuts {
 
     // At most 32, each with good numbers.
     pub fn is_good(self) -> bool
-        ensures { result ≡ goodTable self }
+        ensures { result ≡ good_table self }
     {
         let n = self.count;
         if KeepOuts::MOST < n {
@@ -88,7 +88,7 @@ impl KeepOuts {
 
     // Whether one of them covers the state.
     pub fn covers(self, s: State) -> bool
-        ensures { result ≡ coveredOf (keepOutsOf self) s }
+        ensures { result ≡ covered_of (keep_outs_of self) s }
     {
         let count = self.count;
         let n = KeepOuts::rows_of(count);

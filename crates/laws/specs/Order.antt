@@ -49,26 +49,26 @@ at_most (fin false m e) (fin false n d) (fin false l g) p q r h k =
     (through (n * up d) (l * up g) (m * up e) (down d) (down g) (down e) (down_pos g) (ltb-false _ _ h) (ltb-false _ _ k))
 
 -- a < b and b < a do not both hold
-pub not-both : (a b : Float) → lt a b ≡ true → good a ≡ true → good b ≡ true → lt b a ≡ false
+pub not_both : (a b : Float) → lt a b ≡ true → good a ≡ true → good b ≡ true → lt b a ≡ false
 unfolding good lt
-not-both nan b h p q = absurd (no p)
-not-both (inf true) b h p q = absurd (no p)
-not-both (inf false) nan h p q = absurd (no q)
-not-both (inf false) (inf true) h p q = absurd (no q)
-not-both (inf false) (inf false) h p q = refl
-not-both (inf false) (fin t n d) h p q = absurd (no h)
-not-both (fin true m e) b h p q = absurd (no p)
-not-both (fin false m e) nan h p q = absurd (no q)
-not-both (fin false m e) (inf true) h p q = absurd (no q)
-not-both (fin false m e) (inf false) h p q = refl
-not-both (fin false m e) (fin true n d) h p q = absurd (no q)
-not-both (fin false m e) (fin false n d) h p q =
+not_both nan b h p q = absurd (no p)
+not_both (inf true) b h p q = absurd (no p)
+not_both (inf false) nan h p q = absurd (no q)
+not_both (inf false) (inf true) h p q = absurd (no q)
+not_both (inf false) (inf false) h p q = refl
+not_both (inf false) (fin t n d) h p q = absurd (no h)
+not_both (fin true m e) b h p q = absurd (no p)
+not_both (fin false m e) nan h p q = absurd (no q)
+not_both (fin false m e) (inf true) h p q = absurd (no q)
+not_both (fin false m e) (inf false) h p q = refl
+not_both (fin false m e) (fin true n d) h p q = absurd (no q)
+not_both (fin false m e) (fin false n d) h p q =
     let k : m * up e * down d < n * up d * down e = ltb-true _ _ h in
     le-ltb (n * up d * down e) (m * up e * down d) (omega arith)
 
 -- a number is not below itself
 pub self : (a : Float) → good a ≡ true → lt a a ≡ false
-self a p = whether (lt a a) (λ e. not-both a a e p p) (λ e. e)
+self a p = whether (lt a a) (λ e. not_both a a e p p) (λ e. e)
 
 -- a < b and b ≤ c give a < c
 pub under : (a b c : Float) → good a ≡ true → good b ≡ true → good c ≡ true → lt a b ≡ true → lt c b ≡ false → lt a c ≡ true

@@ -6,8 +6,8 @@ use Rattle.std.proofs.Math.Decide.{dec_le}
 use Rattle.std.proofs.lemmas.List.{length-map}
 
 module _ {A : Type 0} where
-  pub rest-none : (n : ℕ) (l : List A) (i : ℕ) → n ≤ i → drop i (take n l) ≡ []
-  rest-none n l i h = let e : length (take n l) ≤ i = omega (arith, length-take n l) in drop_of_length-le (take n l) e
+  pub rest_none : (n : ℕ) (l : List A) (i : ℕ) → n ≤ i → drop i (take n l) ≡ []
+  rest_none n l i h = let e : length (take n l) ≤ i = omega (arith, length-take n l) in drop_of_length-le (take n l) e
 
   pub rest_more : (n : ℕ) (l : List A) (i : ℕ) (d : A) → i < n → n ≤ length l → drop i (take n l) ≡ get_or l i d ∷ drop (i + 1) (take n l)
   rest_more n l i d h k =
@@ -19,11 +19,11 @@ abbrev pub Left : {A B : Type 0} → (List A → B) → ℕ → List A → ℕ �
 Left f n l i = f (take n l) ≡ f (drop i (take n l))
 
 module _ {A B : Type 0} (f : List A → B) (n : ℕ) (l : List A) (i : ℕ) where
-  pub left-more : (d : A) → i < n → n ≤ length l → Left f n l i → f (take n l) ≡ f (get_or l i d ∷ drop (i + 1) (take n l))
-  left-more d h k w = w ∙ ap f (rest_more n l i d h k)
+  pub left_more : (d : A) → i < n → n ≤ length l → Left f n l i → f (take n l) ≡ f (get_or l i d ∷ drop (i + 1) (take n l))
+  left_more d h k w = w ∙ ap f (rest_more n l i d h k)
 
-  pub left-none : n ≤ i → Left f n l i → f (take n l) ≡ f []
-  left-none h w = w ∙ ap f (rest-none n l i h)
+  pub left_none : n ≤ i → Left f n l i → f (take n l) ≡ f []
+  left_none h w = w ∙ ap f (rest_none n l i h)
 
 -- What owning a table tells is of its entries' machine values: there are as many entries.
 pub mapped : (X Y : Type 0) (f : X → Y) (l : List X) (n : ℕ) → length (map f l) ≡ n → length l ≡ n
@@ -45,8 +45,8 @@ held l n k d e h w =
     sym (get_or-take n l k d h) ∙ within (take n l) k d e p
 
 -- a count beyond the table reads as the table's end
-pub take-most : {A : Type 0} (n m k : ℕ) (l : List A) → length l ≡ m → k ≡ min n m → take n l ≡ take k l
-take-most n m k l e h =
+pub take_most : {A : Type 0} (n m k : ℕ) (l : List A) → length l ≡ m → k ≡ min n m → take n l ≡ take k l
+take_most n m k l e h =
     elim (dec_le n m) [
       | yes p ↦ (let q : n ≡ k = omega arith in rw q)
       | no p ↦ (let a : length l ≤ n = omega arith in let b : length l ≤ k = omega arith in take_all n l a ∙ sym (take_all k l b))

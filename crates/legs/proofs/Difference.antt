@@ -6,17 +6,17 @@ use native.Mathlib.Omega.{arith}
 use lib.Bits.{bit_or, bit_xor, differ, or_shr, xor_shr, xor_step, or_lt, xor_lt}
 use lib.Dec.{eqb}
 use Rattle.legs.specs.Bits.{bit_of, Without}
-use Rattle.legs.proofs.Square.{odd-or, no_digit}
+use Rattle.legs.proofs.Square.{odd_or, no_digit}
 
-differ-low : (p q : ℕ) → p < 2 → q < 2 → differ p q < 2
-differ-low zero q a b = b
-differ-low (suc zero) zero a b = a
-differ-low (suc zero) (suc zero) a b = omega arith
-differ-low (suc zero) (suc (suc q)) a b = absurd (no_digit q b)
-differ-low (suc (suc p)) q a b = absurd (no_digit p a)
+differ_low : (p q : ℕ) → p < 2 → q < 2 → differ p q < 2
+differ_low zero q a b = b
+differ_low (suc zero) zero a b = a
+differ_low (suc zero) (suc zero) a b = omega arith
+differ_low (suc zero) (suc (suc q)) a b = absurd (no_digit q b)
+differ_low (suc (suc p)) q a b = absurd (no_digit p a)
 
-odd-xor : (x y : ℕ) → bit_xor x y % 2 ≡ differ (x % 2) (y % 2)
-odd-xor x y = omega (arith, xor_step x y, differ-low (x % 2) (y % 2) (omega arith) (omega arith))
+odd_xor : (x y : ℕ) → bit_xor x y % 2 ≡ differ (x % 2) (y % 2)
+odd_xor x y = omega (arith, xor_step x y, differ_low (x % 2) (y % 2) (omega arith) (omega arith))
 
 digit : (p q : ℕ) → p < 2 → q < 2 → eqb (differ (max p q) q) 1 ≡ eqb p 1 && not (eqb q 1)
 digit zero zero a b = refl
@@ -27,11 +27,11 @@ digit zero (suc (suc q)) a b = absurd (no_digit q b)
 digit (suc zero) (suc (suc q)) a b = absurd (no_digit q b)
 digit (suc (suc p)) q a b = absurd (no_digit p a)
 
-without-bit : (x y k : ℕ) → bit_of (bit_xor (bit_or x y) y) k ≡ bit_of x k && not (bit_of y k)
+without_bit : (x y k : ℕ) → bit_of (bit_xor (bit_or x y) y) k ≡ bit_of x k && not (bit_of y k)
 unfolding bit_of
-without-bit x y k =
-    rw (xor_shr (bit_or x y) y k, or_shr x y k, odd-xor (bit_or (x / 2 ^ k) (y / 2 ^ k)) (y / 2 ^ k), odd-or (x / 2 ^ k) (y / 2 ^ k))
+without_bit x y k =
+    rw (xor_shr (bit_or x y) y k, or_shr x y k, odd_xor (bit_or (x / 2 ^ k) (y / 2 ^ k)) (y / 2 ^ k), odd_or (x / 2 ^ k) (y / 2 ^ k))
     (digit (x / 2 ^ k % 2) (y / 2 ^ k % 2) (omega arith) (omega arith))
 
 pub without_is : (x y : ℕ) → x < 2 ^ 64 → y < 2 ^ 64 → Without x y (bit_xor (bit_or x y) y)
-without_is x y a b = record { is = without-bit x y; small = xor_lt 64 (bit_or x y) y (or_lt 64 x y a b) b }
+without_is x y a b = record { is = without_bit x y; small = xor_lt 64 (bit_or x y) y (or_lt 64 x y a b) b }

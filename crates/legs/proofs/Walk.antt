@@ -8,10 +8,10 @@ use native.Mathlib.Decide.{dec_lt}
 use lib.Count.{count_trailing_zeros}
 use lib.ListN.{get_or, replicate}
 use lib.Pow.{shr_lt, shr_le}
-use Rattle.legs.specs.Bits.{bit_of, legAt, unseenAt, Without}
+use Rattle.legs.specs.Bits.{bit_of, leg_at, unseen_at, Without}
 use Rattle.legs.specs.Next.{Next}
 use Rattle.legs.proofs.Square.{cleared}
-use Rattle.legs.proofs.Zeros.{tz-low, tz-bit, tz-lt, no_bits, shifted-bit}
+use Rattle.legs.proofs.Zeros.{tz_low, tz_bit, tz_lt, no_bits, shifted_bit}
 
 -- none is set from `from` on and before at
 abbrev pub Passed : (ℕ → Bool) → ℕ → ℕ → Type 0
@@ -30,18 +30,18 @@ beyond row at j h b e = let p : at + (j - at) ≡ j = omega arith in rw p at e
 module _ (legs : List ℕ) (i : ℕ) (seen : List ℕ) (at word rest : ℕ) (is : Without (get_or legs (4 * i + at / 64) 0) (get_or seen (at / 64) 0) word)
     (shifted : rest ≡ word / 2 ^ (at % 64)) where
   abbrev row : ℕ → Bool
-  row = unseenAt legs i seen
+  row = unseen_at legs i seen
 
   abbrev zeros : ℕ
   zeros = count_trailing_zeros 64 rest
 
   row_here : (k : ℕ) → at % 64 + k < 64 → row (at + k) ≡ bit_of rest k
-  unfolding unseenAt legAt
+  unfolding unseen_at leg_at
   row_here k h =
       let p : (at + k) / 64 ≡ at / 64 = omega arith in
       let q : (at + k) % 64 ≡ at % 64 + k = omega arith in
       let z : 4 * 0 + at / 64 ≡ at / 64 = omega arith in
-      rw (p, q, z, shifted) (sym (is.is (at % 64 + k)) ∙ sym (shifted-bit word (at % 64) k))
+      rw (p, q, z, shifted) (sym (is.is (at % 64 + k)) ∙ sym (shifted_bit word (at % 64) k))
 
   low : rest < 2 ^ (64 - at % 64)
   low =
@@ -52,8 +52,8 @@ module _ (legs : List ℕ) (i : ℕ) (seen : List ℕ) (at word rest : ℕ) (is 
   below : rest < 2 ^ 64
   below = rw shifted (omega (arith, shr_le word (at % 64), is.small))
 
-  pub zeros-few : 0 < rest → zeros < 64 - at % 64
-  zeros-few some = tz-lt 64 (64 - at % 64) rest some low (omega arith)
+  pub zeros_few : 0 < rest → zeros < 64 - at % 64
+  zeros_few some = tz_lt 64 (64 - at % 64) rest some low (omega arith)
 
   module _ (from : ℕ) (onward : from ≤ at) (inside : at < 256) (passed : Passed row from at) where
     -- none is set before what is reached
@@ -63,12 +63,12 @@ module _ (legs : List ℕ) (i : ℕ) (seen : List ℕ) (at word rest : ℕ) (is 
     -- a word with a bit left: the lowest of them is next
     pub found : 0 < rest → Next row from (at + zeros)
     found some =
-        let few = zeros-few some in
+        let few = zeros_few some in
         record {
           onward = omega arith;
           within = omega arith;
-          passed = further (at + zeros) (λ j a b. beyond row at j a false (row_here (j - at) (omega arith) ∙ tz-low 64 rest (j - at) (omega arith)));
-          here = λ h. row_here zeros (omega arith) ∙ tz-bit 64 rest some below;
+          passed = further (at + zeros) (λ j a b. beyond row at j a false (row_here (j - at) (omega arith) ∙ tz_low 64 rest (j - at) (omega arith)));
+          here = λ h. row_here zeros (omega arith) ∙ tz_bit 64 rest some below;
         }
 
     -- a word with none left is passed
@@ -78,15 +78,15 @@ module _ (legs : List ℕ) (i : ℕ) (seen : List ℕ) (at word rest : ℕ) (is 
         (λ j a b. beyond row at j a false (row_here (j - at) (omega arith) ∙ ap (λ (x : ℕ). bit_of x (j - at)) e ∙ no_bits (j - at)))
 
 -- where none was seen
-all-unseen : (legs : List ℕ) (i j : ℕ) → unseenAt legs i (replicate 4 0) j ≡ legAt legs i j
-unfolding unseenAt
-all-unseen legs i j = rw (cleared 4 0 j) (and-true (legAt legs i j))
+all_unseen : (legs : List ℕ) (i j : ℕ) → unseen_at legs i (replicate 4 0) j ≡ leg_at legs i j
+unfolding unseen_at
+all_unseen legs i j = rw (cleared 4 0 j) (and-true (leg_at legs i j))
 
-pub next-of-all : (legs : List ℕ) (i from r : ℕ) → Next (unseenAt legs i (replicate 4 0)) from r → Next (legAt legs i) from r
-next-of-all legs i from r n =
+pub next_of_all : (legs : List ℕ) (i from r : ℕ) → Next (unseen_at legs i (replicate 4 0)) from r → Next (leg_at legs i) from r
+next_of_all legs i from r n =
     record {
       onward = n.onward;
       within = n.within;
-      passed = λ j a b. sym (all-unseen legs i j) ∙ n.passed j a b;
-      here = λ h. sym (all-unseen legs i r) ∙ n.here h;
+      passed = λ j a b. sym (all_unseen legs i j) ∙ n.passed j a b;
+      here = λ h. sym (all_unseen legs i r) ∙ n.here h;
     }

@@ -1,12 +1,12 @@
 // The legs of a roadmap: a square of bits, 256 rows of four words. The bit (i, j) says whether a leg joins the milestones i and j.
 ghost use Rattle.std.specs.Prelude.{◌≡◌, ◌+◌, ◌*◌, ◌≤◌, ◌<◌, length};
-ghost use Rattle.legs.specs.Bits.{legAt, unseenAt, Marked, Linked, Without};
+ghost use Rattle.legs.specs.Bits.{leg_at, unseen_at, Marked, Linked, Without};
 ghost use Rattle.legs.specs.Next.{Next};
 
 // Whether the leg from i to j stands.
 pub fn leg(legs: &[u64; 1024], i: usize, j: usize) -> bool
     requires { (i < 256) × (j < 256) }
-    ensures { result ≡ legAt legs.now i j }
+    ensures { result ≡ leg_at legs.now i j }
 {
     (legs[4 * i + j / 64] >> (j % 64)) % 2 == 1
 }
@@ -40,7 +40,7 @@ fn without(x: u64, y: u64) -> u64
 // order, a word at a time, and one that was seen costs nothing.
 pub fn next_unseen<'a>(legs: &'a [u64; 1024], i: usize, seen: &'a [u64; 4], from: usize) -> usize
     requires { (i < 256) × (from ≤ 256) }
-    ensures { Next (unseenAt legs.now i seen.now) from result }
+    ensures { Next (unseen_at legs.now i seen.now) from result }
 {
     let mut at = from;
     'words: while at < 256 {
@@ -56,7 +56,7 @@ pub fn next_unseen<'a>(legs: &'a [u64; 1024], i: usize, seen: &'a [u64; 4], from
 // The first neighbour of i from the number `from` on; 256 where there is none.
 pub fn next(legs: &[u64; 1024], i: usize, from: usize) -> usize
     requires { (i < 256) × (from ≤ 256) }
-    ensures { Next (legAt legs.now i) from result }
+    ensures { Next (leg_at legs.now i) from result }
 {
     let none: [u64; 4] = [0; 4];
     next_unseen(legs, i, &none, from)

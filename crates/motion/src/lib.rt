@@ -1,9 +1,9 @@
 // The motion check (document 01, "Motion check"), over keep-outs that are lent as columns.
 ghost use Rattle.std.specs.Prelude.{true, ◌≡◌, ◌≤◌};
 ghost use Rattle.std.specs.Float.Ieee.{le};
-ghost use Rattle.columns.specs.Columns.{columnsOf};
-ghost use Rattle.motion.specs.Points.{mostPoints, Least, steps_of, pointAt};
-ghost use Rattle.motion.specs.Accepts.{acceptsOf};
+ghost use Rattle.columns.specs.Columns.{columns_of};
+ghost use Rattle.motion.specs.Points.{most_points, Least, steps_of, point_at};
+ghost use Rattle.motion.specs.Accepts.{accepts_of};
 
 use fields::Limits;
 use keep_out_table::KeepOuts;
@@ -27,7 +27,7 @@ impl Steps {
 
 // The least whole number that is not below q. A u32 becomes a float in one instruction, where a usize takes six.
 fn least(q: f64) -> usize
-    requires { le q mostPoints ≡ true }
+    requires { le q most_points ≡ true }
     ensures { Least q result }
 {
     let mut n: u32 = 0;
@@ -54,7 +54,7 @@ pub fn num_steps(segment: f64, from: State, to: State) -> Steps
 // The i-th of the points that a motion of n steps tests.
 fn point(from: State, to: State, n: usize, i: usize) -> State
     requires { (i ≤ 4096) × (n ≤ 4096) }
-    ensures { result ≡ pointAt from to n i }
+    ensures { result ≡ point_at from to n i }
 {
     if n <= 1 {
         to
@@ -74,7 +74,7 @@ pub fn accepts<'a>(
     from: State,
     to: State,
 ) -> bool
-    ensures { result ≡ acceptsOf limits segment (columnsOf kinds.now numbers.now count) from to }
+    ensures { result ≡ accepts_of limits segment (columns_of kinds.now numbers.now count) from to }
 {
     let Steps::Count(n) = num_steps(segment, from, to) else {
         return false;

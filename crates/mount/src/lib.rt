@@ -1,11 +1,11 @@
 // The mount with its limits, segment length and keep-outs: valid states and accepted motions (document 01, "The mount" and "Motion check").
 ghost use Rattle.std.specs.Prelude.{◌≡◌};
-ghost use Rattle.keep_out_table.specs.Table.{keepOutsOf};
+ghost use Rattle.keep_out_table.specs.Table.{keep_outs_of};
 ghost use Rattle.motion.specs.Valid.{valid_of};
 ghost use Rattle.motion.specs.Points.{steps_of};
-ghost use Rattle.motion.specs.Accepts.{acceptsOf};
-ghost use Rattle.mount.specs.Good.{goodMount};
-ghost use Rattle.mount.specs.None.{noMount};
+ghost use Rattle.motion.specs.Accepts.{accepts_of};
+ghost use Rattle.mount.specs.Good.{good_mount};
+ghost use Rattle.mount.specs.None.{no_mount};
 
 use columns::Columns;
 use fields::{Length, Limits};
@@ -23,7 +23,7 @@ pub struct Mount {
 impl Mount {
     // For what is not set up yet: limits of no width, and no keep-out.
     pub fn none() -> Mount
-        ensures { result ≡ noMount }
+        ensures { result ≡ no_mount }
     {
         let zero = State {
             az: 0.0,
@@ -41,7 +41,7 @@ impl Mount {
     }
 
     pub fn is_good(self) -> bool
-        ensures { result ≡ goodMount self }
+        ensures { result ≡ good_mount self }
     {
         if self.limits.is_good() {
             if self.segment.is_good() {
@@ -53,7 +53,7 @@ impl Mount {
 
     // Within the limits, and covered by no keep-out.
     pub fn is_valid(self, s: State) -> bool
-        ensures { result ≡ valid_of self.limits (keepOutsOf self.table) s }
+        ensures { result ≡ valid_of self.limits (keep_outs_of self.table) s }
     {
         let limits = self.limits;
         if s.within(limits.low, limits.high) {
@@ -73,7 +73,7 @@ impl Mount {
 
     // Whether the motion from from to to is accepted.
     pub fn check_motion(self, from: State, to: State) -> bool
-        ensures { result ≡ acceptsOf self.limits self.segment.value (keepOutsOf self.table) from to }
+        ensures { result ≡ accepts_of self.limits self.segment.value (keep_outs_of self.table) from to }
     {
         let columns = Columns::of(self.table);
         let count = columns.count;

@@ -1,7 +1,7 @@
 // The calls on the mount alone: its setup, and the six calls on states.
 ghost use Rattle.std.specs.Prelude.{◌≡◌};
-ghost use Rattle.mount_calls.specs.None.{noneOf};
-ghost use Rattle.mount_calls.specs.Kept.{setupFrom, call_of};
+ghost use Rattle.mount_calls.specs.None.{none_of};
+ghost use Rattle.mount_calls.specs.Kept.{setup_from, call_of};
 
 use answer::Answer;
 use grammar::Verb;
@@ -37,7 +37,7 @@ struct Done {
 
 // Before any setup.
 pub fn none() -> Kept
-    ensures { result ≡ noneOf }
+    ensures { result ≡ none_of }
 {
     Kept {
         is_ready: false,
@@ -47,7 +47,7 @@ pub fn none() -> Kept
 
 // A setup that is refused keeps the former mount.
 fn setup(kept: Kept, numbers: &[f64], table: KeepOuts) -> Done
-    ensures { result.kept ≡ setupFrom kept numbers.now table }
+    ensures { result.kept ≡ setup_from kept numbers.now table }
 {
     let limits = given::limits(numbers);
     let segment = given::length(numbers, 6);

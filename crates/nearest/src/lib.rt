@@ -1,7 +1,7 @@
 // The node of a tree that is nearest to a state (document 01, "Tree step").
 ghost use Rattle.std.specs.Prelude.{◌≡◌, ◌≤◌, ◌<◌, ◌+◌};
-ghost use Rattle.tree.specs.Table.{statesOf};
-ghost use Rattle.nearest.specs.Nearest.{nearestOf, less_of, farOf, Lowest};
+ghost use Rattle.tree.specs.Table.{states_of};
+ghost use Rattle.nearest.specs.Nearest.{nearest_of, less_of, far_of, Lowest};
 
 use state::State;
 
@@ -15,7 +15,7 @@ pub struct Near {
 // The distance of the node at i to s.
 fn at<'a>(az: &'a [f64; 512], el: &'a [f64; 512], feed: &'a [f64; 512], i: usize, s: State) -> f64
     requires { i < 512 }
-    ensures { result ≡ farOf az.now el.now feed.now s i }
+    ensures { result ≡ far_of az.now el.now feed.now s i }
 {
     let node = State {
         az: az[i],
@@ -63,7 +63,7 @@ pub fn nearest<'a>(
     n: usize,
     s: State,
 ) -> Near
-    ensures { result ≡ nearestOf (statesOf n az.now el.now feed.now) s }
+    ensures { result ≡ nearest_of (states_of n az.now el.now feed.now) s }
 {
     if n == 0 {
         return Near { index: 0, far: 0.0 };

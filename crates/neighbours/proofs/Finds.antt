@@ -13,9 +13,9 @@ use lib.Ieee.{Float, lt}
 use Rattle.state.specs.Distance.{distance_of}
 use Rattle.state.specs.declared.State.{State}
 use Rattle.state.specs.Rows.{row_at}
-use Rattle.tree.specs.Table.{rows_of, statesOf}
-use Rattle.tree.proofs.Rows.{rows_more, rows_none, states-are}
-use Rattle.neighbours.specs.Neighbours.{neighboursFrom, neighboursOf, Numbers, Found}
+use Rattle.tree.specs.Table.{rows_of, states_of}
+use Rattle.tree.proofs.Rows.{rows_more, rows_none, states_are}
+use Rattle.neighbours.specs.Neighbours.{neighbours_from, neighbours_of, Numbers, Found}
 
 -- a node's number, written behind numbers of nodes
 numbers_more : (n i many : ℕ) (found : List ℕ) → i < n → many < length found → Numbers n many found → Numbers n (many + 1) (set found many i)
@@ -31,24 +31,24 @@ numbers_more n i many found h l w k b =
 module _ (radius : Float) (new : State) (az el feed : List Float) (n : ℕ) where
   -- the neighbours among the nodes from i on
   abbrev later : ℕ → List ℕ
-  later i = neighboursFrom radius new i (rows_of az el feed (n - i) i)
+  later i = neighbours_from radius new i (rows_of az el feed (n - i) i)
 
   pub record Finding (i many : ℕ) (found : List ℕ) : Type 0 where
     pub within : i ≤ n
     pub few : many ≤ i
     pub sized : length found ≡ 512
     pub numbers : Numbers n many found
-    pub is : neighboursOf radius new (statesOf n az el feed) ≡ take many found ++ later i
+    pub is : neighbours_of radius new (states_of n az el feed) ≡ take many found ++ later i
 
-  pub finds-first : (found : List ℕ) → n ≤ 512 → length found ≡ 512 → Finding 0 0 found
-  unfolding neighboursOf
-  finds-first found h l =
+  pub finds_first : (found : List ℕ) → n ≤ 512 → length found ≡ 512 → Finding 0 0 found
+  unfolding neighbours_of
+  finds_first found h l =
       record {
         within = omega arith;
         few = omega arith;
         sized = l;
         numbers = λ k b. absurd (none b);
-        is = ap (neighboursFrom radius new 0) (states-are az el feed n n (omega arith));
+        is = ap (neighbours_from radius new 0) (states_are az el feed n n (omega arith));
       }
     where
       none : {k : ℕ} → k < 0 → ⊥
@@ -58,10 +58,10 @@ module _ {radius : Float} {new : State} {az el feed : List Float} {n i many : �
   abbrev rest : ℕ → List ℕ
   rest = later radius new az el feed n
 
-  pub finds-all : n ≤ i → Found radius new n (statesOf n az el feed) many found
-  unfolding neighboursFrom
-  finds-all e =
-      let none : rest i ≡ [] = ap (neighboursFrom radius new i) (rows_none az el feed n i e) in
+  pub finds_all : n ≤ i → Found radius new n (states_of n az el feed) many found
+  unfolding neighbours_from
+  finds_all e =
+      let none : rest i ≡ [] = ap (neighbours_from radius new i) (rows_none az el feed n i e) in
       record {
         is = sym (h.is ∙ ap (λ (l : List ℕ). take many found ++ l) none ∙ append-nil (take many found));
         few = omega arith;
@@ -71,12 +71,12 @@ module _ {radius : Float} {new : State} {az el feed : List Float} {n i many : �
 
   module _ (room : n ≤ 512) (more : i < n) {d : Float} (far : d ≡ distance_of new (row_at az el feed i)) where
     turn : rest i ≡ cond (lt d radius) (i ∷ rest (i + 1)) (rest (i + 1))
-    unfolding neighboursFrom
-    turn = rw far (ap (neighboursFrom radius new i) (rows_more az el feed n i more))
+    unfolding neighbours_from
+    turn = rw far (ap (neighbours_from radius new i) (rows_more az el feed n i more))
 
     -- a neighbour goes behind those found so far
-    pub finds-one : {found' : List ℕ} {many' : ℕ} → lt d radius ≡ true → found' ≡ set found many i → many' ≡ many + 1 → Finding radius new az el feed n (i + 1) many' found'
-    finds-one t p q =
+    pub finds_one : {found' : List ℕ} {many' : ℕ} → lt d radius ≡ true → found' ≡ set found many i → many' ≡ many + 1 → Finding radius new az el feed n (i + 1) many' found'
+    finds_one t p q =
         let l : many < length found = omega (arith, h.few, h.sized) in
         let e : rest i ≡ i ∷ rest (i + 1) = turn ∙ rw t in
         let w : take many found ++ (i ∷ []) ≡ take (many + 1) (set found many i) = sym (rw (add-one, take-suc-set found many i l)) in
@@ -92,8 +92,8 @@ module _ {radius : Float} {new : State} {az el feed : List Float} {n i many : �
         }
 
     -- another node changes nothing
-    pub finds-none : {found' : List ℕ} {many' : ℕ} → lt d radius ≡ false → found' ≡ found → many' ≡ many → Finding radius new az el feed n (i + 1) many' found'
-    finds-none t p q =
+    pub finds_none : {found' : List ℕ} {many' : ℕ} → lt d radius ≡ false → found' ≡ found → many' ≡ many → Finding radius new az el feed n (i + 1) many' found'
+    finds_none t p q =
         let e : rest i ≡ rest (i + 1) = turn ∙ rw t in
         rw (p, q)
         record {

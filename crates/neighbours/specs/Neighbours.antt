@@ -5,14 +5,14 @@ use Rattle.state.specs.Distance.{distance_of}
 use Rattle.state.specs.declared.State.{State}
 
 -- among the nodes from i on
-unfoldable pub neighboursFrom : Float → State → ℕ → List State → List ℕ
-neighboursFrom radius new i [] = []
-neighboursFrom radius new i (x ∷ xs) =
-    let later = neighboursFrom radius new (i + 1) xs in
+unfoldable pub neighbours_from : Float → State → ℕ → List State → List ℕ
+neighbours_from radius new i [] = []
+neighbours_from radius new i (x ∷ xs) =
+    let later = neighbours_from radius new (i + 1) xs in
     cond (lt (distance_of new x) radius) (i ∷ later) later
 
-unfoldable pub neighboursOf : Float → State → List State → List ℕ
-neighboursOf radius new states = neighboursFrom radius new 0 states
+unfoldable pub neighbours_of : Float → State → List State → List ℕ
+neighbours_of radius new states = neighbours_from radius new 0 states
 
 -- each of the first many is the number of one of n nodes
 abbrev pub Numbers : ℕ → ℕ → List ℕ → Type 0
@@ -20,7 +20,7 @@ Numbers n many found = (k : ℕ) → k < many → get_or found k 0 < n
 
 -- the first many of a list are the neighbours
 pub record Found (radius : Float) (new : State) (n : ℕ) (states : List State) (many : ℕ) (found : List ℕ) : Type 0 where
-  pub is : take many found ≡ neighboursOf radius new states
+  pub is : take many found ≡ neighbours_of radius new states
   pub few : many ≤ n
   pub numbers : Numbers n many found
   pub sized : length found ≡ 512

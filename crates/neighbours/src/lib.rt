@@ -1,6 +1,6 @@
 // The neighbours of a new state (document 01, "RRT*"), found before the state is appended.
 ghost use Rattle.std.specs.Prelude.{◌≡◌, ◌≤◌, length};
-ghost use Rattle.tree.specs.Table.{statesOf};
+ghost use Rattle.tree.specs.Table.{states_of};
 ghost use Rattle.neighbours.specs.Neighbours.{Found};
 
 use state::State;
@@ -16,7 +16,7 @@ pub fn find_neighbours<'a>(
     found: &mut [usize; 512],
 ) -> usize
     requires { (n ≤ 512) × (length found.old ≡ 512) }
-    ensures { Found radius new n (statesOf n az.now el.now feed.now) result found.new }
+    ensures { Found radius new n (states_of n az.now el.now feed.now) result found.new }
 {
     let mut many: usize = 0;
     let mut i: usize = 0;

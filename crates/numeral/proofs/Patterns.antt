@@ -9,15 +9,15 @@ use lib.Ieee.Bits.{nan_bits_is, nan_bits_above}
 use lib.Ieee.Compare.{differs_from_itself}
 
 -- what equals itself is no NaN, and what does not is one
-pub equal-is-number : (x : Float) → eq x x ≡ true → is_nan x ≡ false
+pub equal_is_number : (x : Float) → eq x x ≡ true → is_nan x ≡ false
 unfolding is_nan eq
-equal-is-number nan e = absurd (subst T (sym e) tt)
-equal-is-number (inf s) e = refl
-equal-is-number (fin s m d) e = refl
+equal_is_number nan e = absurd (subst T (sym e) tt)
+equal_is_number (inf s) e = refl
+equal_is_number (fin s m d) e = refl
 
-pub unequal-is-nan : (x : Float) → eq x x ≡ false → x ≡ nan
+pub unequal_is_nan : (x : Float) → eq x x ≡ false → x ≡ nan
 unfolding ne
-unequal-is-nan x e = differs_from_itself x (subst (λ (b : Bool). T (not b)) (sym e) tt)
+unequal_is_nan x e = differs_from_itself x (subst (λ (b : Bool). T (not b)) (sym e) tt)
 
 only_nan : (x : Float) → is_nan x ≡ true → x ≡ nan
 unfolding is_nan
@@ -26,8 +26,8 @@ only_nan (inf s) e = absurd (subst T (sym e) tt)
 only_nan (fin s m d) e = absurd (subst T (sym e) tt)
 
 -- with the sign's bit taken off, a NaN's pattern is above that of infinity
-pub above-is-nan : (bits : ℕ) → 9218868437227405312 < bits % 9223372036854775808 → of_bits binary64 bits ≡ nan
-above-is-nan bits h = only_nan (of_bits binary64 bits) (sym (nan_bits_is binary64 bits) ∙ nan_bits_above binary64 bits ∙ lt-ltb _ _ h)
+pub above_is_nan : (bits : ℕ) → 9218868437227405312 < bits % 9223372036854775808 → of_bits binary64 bits ≡ nan
+above_is_nan bits h = only_nan (of_bits binary64 bits) (sym (nan_bits_is binary64 bits) ∙ nan_bits_above binary64 bits ∙ lt-ltb _ _ h)
 
-pub up-to-is-number : (bits : ℕ) → bits % 9223372036854775808 ≤ 9218868437227405312 → T (not (nan_bits binary64 bits))
-up-to-is-number bits h = subst (λ (b : Bool). T (not b)) (sym (nan_bits_above binary64 bits ∙ le-ltb _ _ h)) tt
+pub up_to_is_number : (bits : ℕ) → bits % 9223372036854775808 ≤ 9218868437227405312 → T (not (nan_bits binary64 bits))
+up_to_is_number bits h = subst (λ (b : Bool). T (not b)) (sym (nan_bits_above binary64 bits ∙ le-ltb _ _ h)) tt

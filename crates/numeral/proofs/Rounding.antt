@@ -13,22 +13,22 @@ use lib.Ieee.Fits.{down_pos, round_is}
 use lib.Ieee.Scale.{round_same}
 
 -- ---- the sign
-neg-odd : (d q k l : ℕ) → neg (odd d false q k l) ≡ odd d true q k l
+neg_odd : (d q k l : ℕ) → neg (odd d false q k l) ≡ odd d true q k l
 unfolding odd neg
-neg-odd d zero k l = refl
-neg-odd d (suc q) k l = refl
+neg_odd d zero k l = refl
+neg_odd d (suc q) k l = refl
 
-neg-units : (f : Format) (q k : ℕ) → neg (units f false q k) ≡ units f true q k
+neg_units : (f : Format) (q k : ℕ) → neg (units f false q k) ≡ units f true q k
 unfolding units
-neg-units f q k = go (ltb (q * 2 ^ k) (2 ^ (low f + suc (emax f))))
+neg_units f q k = go (ltb (q * 2 ^ k) (2 ^ (low f + suc (emax f))))
   where
     go : (b : Bool)
         → neg (cond b (odd (suc (prec f)) false q k (low f)) (inf false)) ≡ cond b (odd (suc (prec f)) true q k (low f)) (inf true)
-    go true = neg-odd (suc (prec f)) q k (low f)
+    go true = neg_odd (suc (prec f)) q k (low f)
     go false = unfold neg in refl
 
-pub negated-rounding : (f : Format) (a b : ℕ) → neg (round f false a b) ≡ round f true a b
-negated-rounding f a b = ap neg (round_is f false a b) ∙ neg-units f _ _ ∙ sym (round_is f true a b)
+pub negated_rounding : (f : Format) (a b : ℕ) → neg (round f false a b) ≡ round f true a b
+negated_rounding f a b = ap neg (round_is f false a b) ∙ neg_units f _ _ ∙ sym (round_is f true a b)
 
 -- ---- the division
 -- a whole number above 0 has a digit that is not 0
@@ -60,8 +60,8 @@ divides f (fin false m e) (fin false n d) a b p q h =
 divides f (fin true m e) y a b p q h = absurd (subst T p.0 tt)
 divides f (fin false m e) (fin true n d) a b p q h = absurd (subst T q.0 tt)
 
-pub one-division-rounds-once : (a b : ℕ) → a ≤ 2 ^ 53 → b ≤ 2 ^ 53 → 0 < b
+pub one_division_rounds_once : (a b : ℕ) → a ≤ 2 ^ 53 → b ≤ 2 ^ 53 → 0 < b
     → div binary64 (of_int binary64 (pos a)) (of_int binary64 (pos b)) ≡ round binary64 false a b
 unfolding of_int
-one-division-rounds-once a b A B h =
+one_division_rounds_once a b A B h =
     divides binary64 (round binary64 false a 1) (round binary64 false b 1) a b (round_whole binary64 false a A) (round_whole binary64 false b B) h

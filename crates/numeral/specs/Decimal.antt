@@ -10,5 +10,5 @@ unfoldable pub short_of : ℕ → ℕ → Bool
 short_of digits places = ltb digits (10 ^ 15) && leb places 15
 
 -- the binary64 that is nearest to digits / 10 ^ places, with the sign; a zero keeps its sign
-unfoldable pub decimalOf : Bool → ℕ → ℕ → NumeralMade
-decimalOf negative digits places = cond (short_of digits places) (Good (round binary64 negative digits (10 ^ places))) Bad
+unfoldable pub decimal_of : Bool → ℕ → ℕ → NumeralMade
+decimal_of negative digits places = cond (short_of digits places) (Good (round binary64 negative digits (10 ^ places))) Bad

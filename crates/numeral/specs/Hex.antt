@@ -3,7 +3,7 @@ use Rattle.std.specs.Prelude.{ℕ, ◌-◌, ◌&&◌, cond, leb}
 use Rattle.numeral.specs.declared.HexDigit.{HexDigit}
 use Rattle.numeral.specs.declared.HexDigit.TheVariants.{Value, Other}
 
-unfoldable pub hexOf : ℕ → HexDigit
-hexOf byte =
+unfoldable pub hex_of : ℕ → HexDigit
+hex_of byte =
     cond (leb 48 byte && leb byte 57) (Value (byte - 48))
     (cond (leb 97 byte && leb byte 102) (Value (byte - 87)) Other)

@@ -2,9 +2,9 @@
 ghost use Rattle.std.specs.Prelude.{◌≡◌, ◌^◌, ◌≤◌};
 ghost use Rattle.std.specs.Float.{binary64};
 ghost use Rattle.std.specs.Float.Ieee.{of_bits};
-ghost use Rattle.numeral.specs.Decimal.{decimalOf};
+ghost use Rattle.numeral.specs.Decimal.{decimal_of};
 ghost use Rattle.numeral.specs.Bits.{bits_of};
-ghost use Rattle.numeral.specs.Hex.{hexOf};
+ghost use Rattle.numeral.specs.Hex.{hex_of};
 
 #[derive(Drop)]
 pub enum NumeralMade {
@@ -42,7 +42,7 @@ fn power_of_ten(places: usize) -> u64
 // The number nearest to digits / 10 ^ places, with its sign. Both are whole numbers that an f64 holds exactly, so one division rounds
 // once. Refused: more than 15 digits, or more than 15 places.
 pub fn decimal(negative: bool, digits: u64, places: usize) -> NumeralMade
-    ensures { result ≡ decimalOf negative digits places }
+    ensures { result ≡ decimal_of negative digits places }
 {
     if digits < 1_000_000_000_000_000 {
         if places <= 15 {
@@ -84,7 +84,7 @@ pub enum HexDigit {
 
 // What a byte is worth as a lower-case hexadecimal digit.
 pub fn hex_digit(byte: u8) -> HexDigit
-    ensures { result ≡ hexOf byte }
+    ensures { result ≡ hex_of byte }
 {
     match byte {
         b'0'..=b'9' => HexDigit::Value((byte - b'0') as u64),

@@ -1,11 +1,11 @@
 // A roadmap that is built, has keep-outs added to it, as a machine that is parked among the milestones, and is asked for routes. The keep-outs
 // that are added stand in the same columns as the setup's, in the rows after those.
 ghost use Rattle.std.specs.Prelude.{◌≡◌};
-ghost use Rattle.prm.specs.Planner.{plannerOf, answeredOf};
-ghost use Rattle.prm.specs.Construct.{constructedOf};
-ghost use Rattle.prm.specs.Query.{queriedOf};
-ghost use Rattle.parking.specs.Park.{parkOf, buildOf};
-ghost use Rattle.parking.specs.Chart.{queriesOf, chartOf, Charts};
+ghost use Rattle.prm.specs.Planner.{planner_of, answered_of};
+ghost use Rattle.prm.specs.Construct.{constructed_of};
+ghost use Rattle.prm.specs.Query.{queried_of};
+ghost use Rattle.parking.specs.Park.{park_of, build_of};
+ghost use Rattle.parking.specs.Chart.{queries_of, chart_of, Charts};
 
 use answer::Answer;
 use keep_out_table::KeepOuts;
@@ -28,7 +28,7 @@ fn park<'a>(
     first: usize,
     added: usize,
 ) -> Answered
-    ensures { answeredOf result ≡ parkOf kinds.now numbers.now (plannerOf planner) added first }
+    ensures { answered_of result ≡ park_of kinds.now numbers.now (planner_of planner) added first }
 {
     let mut parked = planner;
     let mut j = first;
@@ -67,7 +67,7 @@ fn build<'a>(
     first: usize,
     added: usize,
 ) -> Constructed
-    ensures { constructedOf result ≡ buildOf kinds.now numbers.now first added (plannerOf planner) samples.now }
+    ensures { constructed_of result ≡ build_of kinds.now numbers.now first added (planner_of planner) samples.now }
 {
     let built = planner.construct_roadmap(samples);
     let told = built.answer;
@@ -87,7 +87,7 @@ fn build<'a>(
 // So many queries, each on the route that the one before left. Answers as the last, or as the one that is given. They are counted in a byte: no page
 // bounds them, and a call is to end soon on any numbers.
 fn ask(planner: Prm, queries: u8, first: Queried, route: &mut [f64]) -> Queried
-    ensures { queriedOf result route.new ≡ queriesOf (plannerOf planner) queries (queriedOf first route.old) }
+    ensures { queried_of result route.new ≡ queries_of (planner_of planner) queries (queried_of first route.old) }
 {
     let mut last = first;
     let mut i: u8 = 0;
@@ -109,7 +109,7 @@ pub fn chart<'a>(
     queries: u8,
     route: &mut [f64],
 ) -> Charted
-    ensures { Charts (chartOf (buildOf kinds.now numbers.now first added) queries (plannerOf planner) samples.now route.old) result route.new }
+    ensures { Charts (chart_of (build_of kinds.now numbers.now first added) queries (planner_of planner) samples.now route.old) result route.new }
 {
     let built = build(planner, samples, kinds, numbers, first, added);
     let told = built.answer;

@@ -4,10 +4,10 @@ use mathlib.Core.Path.{◌≡◌}
 use Rattle.plan.specs.Plan.{unset, set, view_of}
 
 module _ {P A : Type 0} (usable : Bool) (plan : P) (tables : A) where
-  pub view-set : usable ≡ true → view_of usable plan tables ≡ set plan tables
+  pub view_set : usable ≡ true → view_of usable plan tables ≡ set plan tables
   unfolding view_of
-  view-set u = rw u
+  view_set u = rw u
 
-  pub view-unset : usable ≡ false → view_of usable plan tables ≡ unset
+  pub view_unset : usable ≡ false → view_of usable plan tables ≡ unset
   unfolding view_of
-  view-unset u = rw u
+  view_unset u = rw u

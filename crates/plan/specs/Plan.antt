@@ -3,7 +3,7 @@ use Rattle.std.specs.Prelude.{Bool, cond, List, Float}
 use Rattle.fields.specs.declared.Limits.{Limits}
 use Rattle.fields.specs.declared.Length.{Length}
 use Rattle.fields.specs.declared.Goal.{Goal}
-use Rattle.keep_out_table.specs.Table.{keepOutsOf}
+use Rattle.keep_out_table.specs.Table.{keep_outs_of}
 use Rattle.keep_out.specs.declared.KeepOut.{KeepOut}
 use Rattle.mount.specs.declared.Mount.{Mount}
 use Rattle.plan.specs.declared.Setting.{Setting}
@@ -12,21 +12,21 @@ use Rattle.plan.specs.declared.Setting.{Setting}
 pub record Plan : Type 0 where
   pub limits : Limits
   pub segment : Float
-  pub keepOuts : List KeepOut
+  pub keep_outs : List KeepOut
   pub max : Float
   pub goal : Goal
 
 -- the plan that the code's values make
-abbrev pub planFrom : Mount → Length → Goal → Plan
-planFrom mount max goal =
-    record { limits = mount.limits; segment = mount.segment.value; keepOuts = keepOutsOf mount.table; max = max.value; goal = goal }
+abbrev pub plan_from : Mount → Length → Goal → Plan
+plan_from mount max goal =
+    record { limits = mount.limits; segment = mount.segment.value; keep_outs = keep_outs_of mount.table; max = max.value; goal = goal }
 
 abbrev pub plan_of : Setting → Plan
-plan_of s = planFrom s.mount s.reach s.goal
+plan_of s = plan_from s.mount s.reach s.goal
 
 -- the same under another list of keep-outs
-abbrev pub planUnder : Plan → List KeepOut → Plan
-planUnder p ks = record { limits = p.limits; segment = p.segment; keepOuts = ks; max = p.max; goal = p.goal }
+abbrev pub plan_under : Plan → List KeepOut → Plan
+plan_under p ks = record { limits = p.limits; segment = p.segment; keep_outs = ks; max = p.max; goal = p.goal }
 
 -- uninitialised, or set up: what the setup gave (P), and the tables (A)
 pub data Planner (P A : Type 0) : Type 0 where

@@ -3,7 +3,7 @@ use Rattle.std.specs.Prelude.{ℕ, cond, List, [], ltb, length, Float}
 use Rattle.answer.specs.declared.Answer.{Answer}
 use Rattle.answer.specs.declared.Answer.TheVariants.{Uninitialised, BadInput, Room}
 use Rattle.state.specs.declared.State.{State}
-use Rattle.samples.specs.Samples.{goodSamples, samplesOf}
+use Rattle.samples.specs.Samples.{good_samples, samples_of}
 use Rattle.route.specs.Written.{written_of}
 use Rattle.plan.specs.Plan.{Planner, unset, set}
 
@@ -14,8 +14,8 @@ pub record Ended (A : Type 0) : Type 0 where
   pub path : List State
   pub taken : ℕ
 
-abbrev pub noRoute : {A : Type 0} → A → Answer → ℕ → Ended A
-noRoute tables answer taken = record { tables = tables; answer = answer; path = []; taken = taken }
+abbrev pub no_route : {A : Type 0} → A → Answer → ℕ → Ended A
+no_route tables answer taken = record { tables = tables; answer = answer; path = []; taken = taken }
 
 -- all that a solve gives: planner, answer, count, taken, and every number of the route buffer
 pub record Outcome (P A : Type 0) : Type 0 where
@@ -26,8 +26,8 @@ pub record Outcome (P A : Type 0) : Type 0 where
   pub route : List Float
 
 -- a refusal keeps all
-abbrev pub refusedOf : {P A : Type 0} → Planner P A → Answer → List Float → Outcome P A
-refusedOf planner answer route = record { planner = planner; answer = answer; count = 0; taken = 0; route = route }
+abbrev pub refused_of : {P A : Type 0} → Planner P A → Answer → List Float → Outcome P A
+refused_of planner answer route = record { planner = planner; answer = answer; count = 0; taken = 0; route = route }
 
 -- the first 3 x count numbers are written, the rest is kept
 unfoldable pub ended_of : {P A : Type 0} → P → Ended A → List Float → Outcome P A
@@ -35,9 +35,9 @@ ended_of plan e route =
     record { planner = set plan e.tables; answer = e.answer; count = length e.path; taken = e.taken; route = written_of e.path route }
 
 -- `needed` is the length that the route buffer needs, and `run` is the planner's work on the samples
-unfoldable pub solveWith : {P A : Type 0} → ℕ → (P → A → List State → Ended A) → Planner P A → List Float → List Float → Outcome P A
-solveWith needed run unset samples route = refusedOf unset Uninitialised route
-solveWith needed run (set plan tables) samples route =
-    let done = ended_of plan (run plan tables (samplesOf samples)) route in
-    let checked = cond (goodSamples samples) done (refusedOf (set plan tables) BadInput route) in
-    cond (ltb (length route) needed) (refusedOf (set plan tables) Room route) checked
+unfoldable pub solve_with : {P A : Type 0} → ℕ → (P → A → List State → Ended A) → Planner P A → List Float → List Float → Outcome P A
+solve_with needed run unset samples route = refused_of unset Uninitialised route
+solve_with needed run (set plan tables) samples route =
+    let done = ended_of plan (run plan tables (samples_of samples)) route in
+    let checked = cond (good_samples samples) done (refused_of (set plan tables) BadInput route) in
+    cond (ltb (length route) needed) (refused_of (set plan tables) Room route) checked

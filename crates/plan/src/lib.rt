@@ -1,7 +1,7 @@
 // What the planners have in common: the numbers that a setup takes, and when a planner can be used.
 ghost use Rattle.std.specs.Prelude.{false, ◌≡◌};
-ghost use Rattle.plan.specs.Setup.{goodSetup, setting_of, usableOf};
-ghost use Rattle.plan.specs.KeepOut.{moreOf, longerSetting};
+ghost use Rattle.plan.specs.Setup.{good_setup, setting_of, usable_of};
+ghost use Rattle.plan.specs.KeepOut.{more_of, longer_setting};
 
 use answer::Answer;
 use fields::{Goal, Length, Limits};
@@ -13,7 +13,7 @@ use tree::Tree;
 
 // Whether every number of a setup is good. The start need not be valid.
 fn is_good(mount: Mount, reach: Length, start: State, goal: Goal) -> bool
-    ensures { result ≡ goodSetup mount reach start goal }
+    ensures { result ≡ good_setup mount reach start goal }
 {
     if mount.is_good() {
         if reach.is_good() {
@@ -27,7 +27,7 @@ fn is_good(mount: Mount, reach: Length, start: State, goal: Goal) -> bool
 
 // Whether a setup was accepted, and left a tree that a setup can leave.
 pub fn is_usable(ready: bool, count: usize) -> bool
-    ensures { result ≡ usableOf ready count }
+    ensures { result ≡ usable_of ready count }
 {
     if ready {
         if 0 < count {
@@ -102,7 +102,7 @@ impl Setting {
 
     // Bad numbers come before the 33rd.
     pub fn with_keep_out(self, k: KeepOut) -> More
-        ensures { moreOf result ≡ longerSetting self k }
+        ensures { more_of result ≡ longer_setting self k }
     {
         if k.is_good() {
             let longer = self.mount.table.with(k);

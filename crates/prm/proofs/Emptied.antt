@@ -9,26 +9,26 @@ use Rattle.answer.specs.declared.Answer.TheVariants.{Done, Unsampled}
 use Rattle.keep_out.specs.declared.KeepOut.{KeepOut}
 use Rattle.plan.specs.Plan.{set}
 use Rattle.roadmap.specs.Map.{Milestone}
-use Rattle.prune.specs.Prune.{prunedOf}
+use Rattle.prune.specs.Prune.{pruned_of}
 use Rattle.prm.specs.Planner.{Given, View}
-use Rattle.prm.specs.Construct.{constructOf}
-use Rattle.prm.specs.Query.{needed, refusedOf, queryOf}
-use Rattle.prm.specs.Adding.{givenUnder, addOf}
+use Rattle.prm.specs.Construct.{construct_of}
+use Rattle.prm.specs.Query.{needed, refused_of, query_of}
+use Rattle.prm.specs.Adding.{given_under, add_of}
 use Rattle.prm.proofs.Demand.{accepted}
 
-module _ (g : Given) (ms : List Milestone) (k : KeepOut) (done : (addOf (set g ms) k).answer ≡ Done) (none : prunedOf g.segment k ms ≡ []) where
+module _ (g : Given) (ms : List Milestone) (k : KeepOut) (done : (add_of (set g ms) k).answer ≡ Done) (none : pruned_of g.segment k ms ≡ []) where
   abbrev longer : Given
-  longer = givenUnder g (g.keepOuts ++ (k ∷ []))
+  longer = given_under g (g.keep_outs ++ (k ∷ []))
 
   -- what is left: the same plan under the longer list, and no milestone
-  pub emptied : (addOf (set g ms) k).planner ≡ set longer []
+  pub emptied : (add_of (set g ms) k).planner ≡ set longer []
   emptied = accepted g ms k done ∙ ap (set longer) none
 
   -- 5 at the next query that has room for a route; the route buffer is kept
-  pub emptied-is-unsampled : (route : List Float) → needed ≤ length route → queryOf (addOf (set g ms) k).planner route ≡ refusedOf Unsampled route
-  unfolding queryOf
-  emptied-is-unsampled route room = rw (emptied, le-ltb (length route) needed room)
+  pub emptied_is_unsampled : (route : List Float) → needed ≤ length route → query_of (add_of (set g ms) k).planner route ≡ refused_of Unsampled route
+  unfolding query_of
+  emptied_is_unsampled route room = rw (emptied, le-ltb (length route) needed room)
 
   -- a later construction is that of an empty roadmap under the longer list
-  pub emptied-begins-anew : (samples : List Float) → constructOf (addOf (set g ms) k).planner samples ≡ constructOf (set longer []) samples
-  emptied-begins-anew samples = ap (λ (v : View). constructOf v samples) emptied
+  pub emptied_begins_anew : (samples : List Float) → construct_of (add_of (set g ms) k).planner samples ≡ construct_of (set longer []) samples
+  emptied_begins_anew samples = ap (λ (v : View). construct_of v samples) emptied

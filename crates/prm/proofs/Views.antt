@@ -6,42 +6,42 @@ use lib.ListN.{length}
 use Rattle.plan.specs.Plan.{plan_of, unset, set}
 use Rattle.plan.proofs.Views as views
 use Rattle.roadmap.specs.Map as map
-use Rattle.roadmap.specs.View.{milestonesOf}
+use Rattle.roadmap.specs.View.{milestones_of}
 use Rattle.roadmap.specs.declared.MilestoneAt.TheVariants.{Nothing}
 use Rattle.prm.specs.declared.Prm.{Prm}
-use Rattle.prm.specs.Planner.{givenBy, plannerOf, size_of, milestoneOf, legOf}
+use Rattle.prm.specs.Planner.{given_by, planner_of, size_of, milestone_of, leg_of}
 
 module _ (p : Prm) where
-  pub view-set : p.setting.ready ≡ true → plannerOf p ≡ set (givenBy (plan_of p.setting) p.start) (milestonesOf p.map)
-  unfolding plannerOf
-  view-set u = views.view-set _ _ _ u
+  pub view_set : p.setting.ready ≡ true → planner_of p ≡ set (given_by (plan_of p.setting) p.start) (milestones_of p.map)
+  unfolding planner_of
+  view_set u = views.view_set _ _ _ u
 
-  pub view-unset : p.setting.ready ≡ false → plannerOf p ≡ unset
-  unfolding plannerOf
-  view-unset u = views.view-unset _ _ _ u
+  pub view_unset : p.setting.ready ≡ false → planner_of p ≡ unset
+  unfolding planner_of
+  view_unset u = views.view_unset _ _ _ u
 
   module _ (u : p.setting.ready ≡ true) where
-    pub size-set : length (milestonesOf p.map) ≡ size_of (plannerOf p)
+    pub size_set : length (milestones_of p.map) ≡ size_of (planner_of p)
     unfolding size_of
-    size-set = rw (view-set u)
+    size_set = rw (view_set u)
 
-    pub milestone-set : (i : ℕ) → map.milestoneOf (milestonesOf p.map) i ≡ milestoneOf (plannerOf p) i
-    unfolding milestoneOf
-    milestone-set i = rw (view-set u)
+    pub milestone_set : (i : ℕ) → map.milestone_of (milestones_of p.map) i ≡ milestone_of (planner_of p) i
+    unfolding milestone_of
+    milestone_set i = rw (view_set u)
 
-    pub leg-set : (i j : ℕ) → map.legOf (milestonesOf p.map) i j ≡ legOf (plannerOf p) i j
-    unfolding legOf
-    leg-set i j = rw (view-set u)
+    pub leg_set : (i j : ℕ) → map.leg_of (milestones_of p.map) i j ≡ leg_of (planner_of p) i j
+    unfolding leg_of
+    leg_set i j = rw (view_set u)
 
   module _ (u : p.setting.ready ≡ false) where
-    pub size-unset : 0 ≡ size_of (plannerOf p)
+    pub size_unset : 0 ≡ size_of (planner_of p)
     unfolding size_of
-    size-unset = rw (view-unset u)
+    size_unset = rw (view_unset u)
 
-    pub milestone-unset : (i : ℕ) → Nothing ≡ milestoneOf (plannerOf p) i
-    unfolding milestoneOf
-    milestone-unset i = rw (view-unset u)
+    pub milestone_unset : (i : ℕ) → Nothing ≡ milestone_of (planner_of p) i
+    unfolding milestone_of
+    milestone_unset i = rw (view_unset u)
 
-    pub leg-unset : (i j : ℕ) → false ≡ legOf (plannerOf p) i j
-    unfolding legOf
-    leg-unset i j = rw (view-unset u)
+    pub leg_unset : (i j : ℕ) → false ≡ leg_of (planner_of p) i j
+    unfolding leg_of
+    leg_unset i j = rw (view_unset u)

@@ -2,10 +2,10 @@
 use Rattle.std.specs.Prelude.{ℕ, cond, List, Float}
 use Rattle.answer.specs.declared.Answer.{Answer}
 use Rattle.answer.specs.declared.Answer.TheVariants.{Uninitialised, BadInput}
-use Rattle.samples.specs.Samples.{goodSamples, samplesOf}
+use Rattle.samples.specs.Samples.{good_samples, samples_of}
 use Rattle.plan.specs.Plan.{unset, set}
 use Rattle.construct.specs.Construct as roadmap
-use Rattle.prm.specs.Planner.{View, plannerOf}
+use Rattle.prm.specs.Planner.{View, planner_of}
 use Rattle.prm.specs.declared.Constructed.{Constructed}
 
 -- all that a construction gives
@@ -14,12 +14,12 @@ pub record Construction : Type 0 where
   pub answer : Answer
   pub taken : ℕ
 
-abbrev pub constructedOf : Constructed → Construction
-constructedOf r = record { planner = plannerOf r.planner; answer = r.answer; taken = r.taken }
+abbrev pub constructed_of : Constructed → Construction
+constructed_of r = record { planner = planner_of r.planner; answer = r.answer; taken = r.taken }
 
-unfoldable pub constructOf : View → List Float → Construction
-constructOf unset samples = record { planner = unset; answer = Uninitialised; taken = 0 }
-constructOf (set given ms) samples =
-    let built = roadmap.constructOf given.limits given.segment given.keepOuts given.radius ms (samplesOf samples) in
+unfoldable pub construct_of : View → List Float → Construction
+construct_of unset samples = record { planner = unset; answer = Uninitialised; taken = 0 }
+construct_of (set given ms) samples =
+    let built = roadmap.construct_of given.limits given.segment given.keep_outs given.radius ms (samples_of samples) in
     let done : Construction = record { planner = set given built.map; answer = built.answer; taken = built.taken } in
-    cond (goodSamples samples) done (record { planner = set given ms; answer = BadInput; taken = 0 })
+    cond (good_samples samples) done (record { planner = set given ms; answer = BadInput; taken = 0 })

@@ -16,25 +16,25 @@ pub record Reply : Type 0 where
   pub count : ℕ
   pub route : List Float
 
-abbrev pub queriedOf : Queried → List Float → Reply
-queriedOf r route = record { answer = r.answer; count = r.count; route = route }
+abbrev pub queried_of : Queried → List Float → Reply
+queried_of r route = record { answer = r.answer; count = r.count; route = route }
 
-abbrev pub refusedOf : Answer → List Float → Reply
-refusedOf answer route = record { answer = answer; count = 0; route = route }
+abbrev pub refused_of : Answer → List Float → Reply
+refused_of answer route = record { answer = answer; count = 0; route = route }
 
 -- the length that a route buffer needs
 abbrev pub needed : ℕ
 needed = 771
 
 -- a route of no state is none
-unfoldable pub foundOf : List State → List Float → Reply
-foundOf path route =
-    cond (eqb (length path) 0) (refusedOf NoSolution route) (record { answer = Done; count = length path; route = written_of path route })
+unfoldable pub found_of : List State → List Float → Reply
+found_of path route =
+    cond (eqb (length path) 0) (refused_of NoSolution route) (record { answer = Done; count = length path; route = written_of path route })
 
-unfoldable pub queryOf : View → List Float → Reply
-queryOf unset route = refusedOf Uninitialised route
-queryOf (set g ms) route =
-    let path = search.queryOf g.limits g.segment g.keepOuts g.radius g.start g.goal ms in
-    let started = cond (valid_of g.limits g.keepOuts g.start) (foundOf path route) (refusedOf InvalidStart route) in
-    let sampled = cond (eqb (length ms) 0) (refusedOf Unsampled route) started in
-    cond (ltb (length route) needed) (refusedOf Room route) sampled
+unfoldable pub query_of : View → List Float → Reply
+query_of unset route = refused_of Uninitialised route
+query_of (set g ms) route =
+    let path = search.query_of g.limits g.segment g.keep_outs g.radius g.start g.goal ms in
+    let started = cond (valid_of g.limits g.keep_outs g.start) (found_of path route) (refused_of InvalidStart route) in
+    let sampled = cond (eqb (length ms) 0) (refused_of Unsampled route) started in
+    cond (ltb (length route) needed) (refused_of Room route) sampled

@@ -1,9 +1,9 @@
 // PRM (document 01, "PRM construction", "PRM query" and "Sizes and answers"): a roadmap of valid samples, and queries over it.
 ghost use Rattle.std.specs.Prelude.{◌≡◌};
-ghost use Rattle.prm.specs.Planner.{plannerOf, newOf, setupOf, answeredOf, goalsOf, size_of, milestoneOf, legOf};
-ghost use Rattle.prm.specs.Construct.{constructedOf, constructOf};
-ghost use Rattle.prm.specs.Adding.{addOf};
-ghost use Rattle.prm.specs.Query.{queriedOf, queryOf};
+ghost use Rattle.prm.specs.Planner.{planner_of, new_of, setup_of, answered_of, goals_of, size_of, milestone_of, leg_of};
+ghost use Rattle.prm.specs.Construct.{constructed_of, construct_of};
+ghost use Rattle.prm.specs.Adding.{add_of};
+ghost use Rattle.prm.specs.Query.{queried_of, query_of};
 
 use answer::Answer;
 use fields::{Goal, Length, Limits};
@@ -55,7 +55,7 @@ impl Prm {
 
     // Uninitialised.
     pub fn new() -> Prm
-        ensures { plannerOf result ≡ newOf }
+        ensures { planner_of result ≡ new_of }
     {
         let zero = State {
             az: 0.0,
@@ -79,7 +79,7 @@ impl Prm {
         goal: Goal,
         table: KeepOuts,
     ) -> Answered
-        ensures { answeredOf result ≡ setupOf (plannerOf self) limits segment connection_radius start goal table }
+        ensures { answered_of result ≡ setup_of (planner_of self) limits segment connection_radius start goal table }
     {
         let setting = Setting::new(limits, segment, connection_radius, start, goal, table);
         if setting.ready {
@@ -102,7 +102,7 @@ impl Prm {
 
     // Builds the roadmap, if it is empty.
     pub fn construct_roadmap(self, samples: &[f64]) -> Constructed
-        ensures { constructedOf result ≡ constructOf (plannerOf self) samples.now }
+        ensures { constructed_of result ≡ construct_of (planner_of self) samples.now }
     {
         let setting = self.setting;
         let map = self.map;
@@ -136,7 +136,7 @@ impl Prm {
 
     // Replaces start and goal; the roadmap stays.
     pub fn replace_goals(self, start: State, goal: Goal) -> Answered
-        ensures { answeredOf result ≡ goalsOf (plannerOf self) start goal }
+        ensures { answered_of result ≡ goals_of (planner_of self) start goal }
     {
         let mut setting = self.setting;
         if setting.ready {
@@ -165,7 +165,7 @@ impl Prm {
 
     // The route from the start to a milestone that satisfies the goal; the planner stays as it is.
     pub fn query(self, route: &mut [f64]) -> Queried
-        ensures { queriedOf result route.new ≡ queryOf (plannerOf self) route.old }
+        ensures { queried_of result route.new ≡ query_of (planner_of self) route.old }
     {
         let setting = self.setting;
         let map = self.map;
@@ -203,7 +203,7 @@ impl Prm {
 
     // Adds a keep-out. What it covers goes: milestones, and legs by their checked points.
     pub fn add_keep_out(self, k: KeepOut) -> Answered
-        ensures { answeredOf result ≡ addOf (plannerOf self) k }
+        ensures { answered_of result ≡ add_of (planner_of self) k }
     {
         let setting = self.setting;
         let map = self.map;
@@ -231,7 +231,7 @@ impl Prm {
 
     // How many milestones there are; none before an accepted setup.
     pub fn size(self) -> usize
-        ensures { result ≡ size_of (plannerOf self) }
+        ensures { result ≡ size_of (planner_of self) }
     {
         let map = self.map;
         if self.setting.ready {
@@ -241,7 +241,7 @@ impl Prm {
     }
 
     pub fn milestone(self, i: usize) -> MilestoneAt
-        ensures { result ≡ milestoneOf (plannerOf self) i }
+        ensures { result ≡ milestone_of (planner_of self) i }
     {
         let map = self.map;
         if self.setting.ready {
@@ -252,7 +252,7 @@ impl Prm {
 
     // Whether a leg joins the milestones i and j.
     pub fn has_leg(self, i: usize, j: usize) -> bool
-        ensures { result ≡ legOf (plannerOf self) i j }
+        ensures { result ≡ leg_of (planner_of self) i j }
     {
         let map = self.map;
         if self.setting.ready {

@@ -1,28 +1,28 @@
 -- What a call of a script leaves of the PRM planner.
 use Rattle.std.specs.Prelude.{List, Float}
 use Rattle.keep_out_table.specs.declared.KeepOuts.{KeepOuts}
-use Rattle.grammar.specs.Calls.{Left, prmCall}
-use Rattle.given.specs.Given.{stateAt, goalAt, fieldsIn, firstIn}
+use Rattle.grammar.specs.Calls.{Left, prm_call}
+use Rattle.given.specs.Given.{state_at, goal_at, fields_in_of, first_in}
 use Rattle.script.specs.declared.line.Line.{Line}
-use Rattle.prm.specs.Planner.{View, plannerOf, setupOf, goalsOf}
-use Rattle.prm.specs.Construct.{constructOf}
-use Rattle.prm.specs.Adding.{addOf}
+use Rattle.prm.specs.Planner.{View, planner_of, setup_of, goals_of}
+use Rattle.prm.specs.Construct.{construct_of}
+use Rattle.prm.specs.Adding.{add_of}
 use Rattle.prm_calls.specs.declared.Called.{Called}
 
-abbrev pub leftBy : Called → Left View
-leftBy r = record { made = r.is_made; planner = plannerOf r.planner }
+abbrev pub left_by : Called → Left View
+left_by r = record { made = r.is_made; planner = planner_of r.planner }
 
-unfoldable pub setupFrom : View → List Float → KeepOuts → View
-setupFrom v l table = let f = fieldsIn l in (setupOf v f.limits f.segment f.reach f.start f.goal table).planner
+unfoldable pub setup_from : View → List Float → KeepOuts → View
+setup_from v l table = let f = fields_in_of l in (setup_of v f.limits f.segment f.reach f.start f.goal table).planner
 
-unfoldable pub keepoutFrom : View → KeepOuts → View
-keepoutFrom v table = (addOf v (firstIn table)).planner
+unfoldable pub keepout_from : View → KeepOuts → View
+keepout_from v table = (add_of v (first_in table)).planner
 
-unfoldable pub constructFrom : View → List Float → View
-constructFrom v samples = (constructOf v samples).planner
+unfoldable pub construct_from : View → List Float → View
+construct_from v samples = (construct_of v samples).planner
 
-unfoldable pub goalsFrom : View → List Float → View
-goalsFrom v l = (goalsOf v (stateAt l 0) (goalAt l 3)).planner
+unfoldable pub goals_from : View → List Float → View
+goals_from v l = (goals_of v (state_at l 0) (goal_at l 3)).planner
 
 unfoldable pub call_of : View → Line → List Float → Left View
-call_of v line l = prmCall v (setupFrom v l line.table) (keepoutFrom v line.table) (constructFrom v l) (goalsFrom v l) line.verb
+call_of v line l = prm_call v (setup_from v l line.table) (keepout_from v line.table) (construct_from v l) (goals_from v l) line.verb

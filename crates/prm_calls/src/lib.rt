@@ -1,7 +1,7 @@
 // The calls on the PRM planner.
 ghost use Rattle.std.specs.Prelude.{◌≡◌};
-ghost use Rattle.prm.specs.Planner.{plannerOf};
-ghost use Rattle.prm_calls.specs.Left.{leftBy, setupFrom, keepoutFrom, constructFrom, goalsFrom, call_of};
+ghost use Rattle.prm.specs.Planner.{planner_of};
+ghost use Rattle.prm_calls.specs.Left.{left_by, setup_from, keepout_from, construct_from, goals_from, call_of};
 
 use grammar::Verb;
 use keep_out_table::KeepOuts;
@@ -19,7 +19,7 @@ pub struct Called {
 
 // The connection radius stands where a tree planner has max_distance.
 fn setup(out: &mut [u8], planner: Prm, numbers: &[f64], table: KeepOuts) -> Prm
-    ensures { plannerOf result ≡ setupFrom (plannerOf planner) numbers.now table }
+    ensures { planner_of result ≡ setup_from (planner_of planner) numbers.now table }
 {
     let f = given::fields_in(numbers);
     let done = planner.setup(f.limits, f.segment, f.reach, f.start, f.goal, table);
@@ -29,7 +29,7 @@ fn setup(out: &mut [u8], planner: Prm, numbers: &[f64], table: KeepOuts) -> Prm
 }
 
 fn keepout(out: &mut [u8], planner: Prm, table: KeepOuts) -> Prm
-    ensures { plannerOf result ≡ keepoutFrom (plannerOf planner) table }
+    ensures { planner_of result ≡ keepout_from (planner_of planner) table }
 {
     let done = planner.add_keep_out(given::keep_out(table));
     let answer = done.answer;
@@ -38,7 +38,7 @@ fn keepout(out: &mut [u8], planner: Prm, table: KeepOuts) -> Prm
 }
 
 fn construct(out: &mut [u8], planner: Prm, samples: &[f64]) -> Prm
-    ensures { plannerOf result ≡ constructFrom (plannerOf planner) samples.now }
+    ensures { planner_of result ≡ construct_from (planner_of planner) samples.now }
 {
     let done = planner.construct_roadmap(samples);
     let answer = done.answer;
@@ -47,7 +47,7 @@ fn construct(out: &mut [u8], planner: Prm, samples: &[f64]) -> Prm
 }
 
 fn goals(out: &mut [u8], planner: Prm, numbers: &[f64]) -> Prm
-    ensures { plannerOf result ≡ goalsFrom (plannerOf planner) numbers.now }
+    ensures { planner_of result ≡ goals_from (planner_of planner) numbers.now }
 {
     let start = given::state(numbers, 0);
     let goal = given::goal(numbers, 3);
@@ -111,7 +111,7 @@ fn tables(out: &mut [u8], planner: Prm) {
 
 // The numbers are all that the line has.
 pub fn call(out: &mut [u8], planner: Prm, line: Line, numbers: &[f64]) -> Called
-    ensures { leftBy result ≡ call_of (plannerOf planner) line numbers.now }
+    ensures { left_by result ≡ call_of (planner_of planner) line numbers.now }
 {
     let verb = line.verb;
     match verb {

@@ -22,16 +22,16 @@ abbrev Placed : List ℕ → ℕ → ℕ → Type 0
 Placed at n i = (o : ℕ) → o < 256 → get_or at o 0 < 256 → (o < i) × (get_or at o 0 < n)
 
 module _ (old at : List ℕ) (n i : ℕ) (w : Numbers old at n i) where
-  pub numbers-gone : i < 256 → n ≤ 256 → Placed at n i → Numbers old at n (i + 1)
-  numbers-gone inside few placed =
+  pub numbers_gone : i < 256 → n ≤ 256 → Placed at n i → Numbers old at n (i + 1)
+  numbers_gone inside few placed =
       record {
         below = λ j h. omega (arith, w.below j h);
         back = w.back;
         there = λ o h l. w.there o (let z = (placed o (omega arith) (omega arith)).0 in z) l;
       }
 
-  pub numbers-kept : n < 256 → i < 256 → n < length old → i < length at → Placed at n i → Numbers (set old n i) (set at i n) (n + 1) (i + 1)
-  numbers-kept room inside roomy long placed =
+  pub numbers_kept : n < 256 → i < 256 → n < length old → i < length at → Placed at n i → Numbers (set old n i) (set at i n) (n + 1) (i + 1)
+  numbers_kept room inside roomy long placed =
       record {
         below = λ j h. elim (ℕ_discrete j n) [ yes e ↦ rw (e, get_or-set_same old n i 0 roomy) (omega arith) | no e ↦ rw (get_or-set_other old n j i 0 e) (omega (arith, w.below j (omega arith))) ];
         back = λ j h. elim (ℕ_discrete j n) [
@@ -45,8 +45,8 @@ module _ (old at : List ℕ) (n i : ℕ) (w : Numbers old at n i) where
       }
 
 module _ (old at : List ℕ) (n i : ℕ) where
-  pub placed-kept : i < length at → Placed at n i → Placed (set at i n) (n + 1) (i + 1)
-  placed-kept long placed o h =
+  pub placed_kept : i < length at → Placed at n i → Placed (set at i n) (n + 1) (i + 1)
+  placed_kept long placed o h =
       elim (ℕ_discrete o i) [
         | yes e ↦ rw (e, get_or-set_same at i n 0 long) (λ l. (omega arith, omega arith))
         | no e ↦ rw (get_or-set_other at i o n 0 e) (λ l. let z = placed o h l in (omega (arith, z.0), omega (arith, z.1)))

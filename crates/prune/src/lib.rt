@@ -1,11 +1,11 @@
 // What a new keep-out leaves of a roadmap (document 01, "Adding a keep-out"). The new keep-out alone is tested, against the milestones
 // and against the checked points of the legs that stand.
 ghost use Rattle.std.specs.Prelude.{not, ◌&&◌, ◌≡◌, ℕ, ◌<◌, length, get_or};
-ghost use Rattle.legs.specs.Bits.{legAt};
+ghost use Rattle.legs.specs.Bits.{leg_at};
 ghost use Rattle.state.specs.Rows.{row_at};
-ghost use Rattle.roadmap.specs.View.{milestonesOf, Joins};
-ghost use Rattle.prune.specs.Hit.{hitOf};
-ghost use Rattle.prune.specs.Prune.{prunedOf};
+ghost use Rattle.roadmap.specs.View.{milestones_of, Joins};
+ghost use Rattle.prune.specs.Hit.{hit_of};
+ghost use Rattle.prune.specs.Prune.{pruned_of};
 ghost use Rattle.prune.specs.Numbers.{Numbers};
 
 use keep_out::KeepOut;
@@ -15,7 +15,7 @@ use state::State;
 
 // Whether k covers a checked point of the motion from from to to.
 fn hits(k: KeepOut, segment: f64, from: State, to: State) -> bool
-    ensures { result ≡ hitOf segment k from to }
+    ensures { result ≡ hit_of segment k from to }
 {
     let Steps::Count(n) = motion::num_steps(segment, from, to) else {
         return false;
@@ -53,7 +53,7 @@ fn keep_legs<'a>(
     legs: &mut [u64; 1024],
 )
     requires { (i < 256) × (n < 256) × (length legs.old ≡ 1024) × Numbers old.now at.now n i }
-    ensures { Joins legs.old n n (λ (j : ℕ). legAt was.now i (get_or old.now j 0) && not (hitOf segment k new (row_at az.now el.now feed.now (get_or old.now j 0)))) legs.new }
+    ensures { Joins legs.old n n (λ (j : ℕ). leg_at was.now i (get_or old.now j 0) && not (hit_of segment k new (row_at az.now el.now feed.now (get_or old.now j 0)))) legs.new }
 {
     let mut o = legs::next(was, i, 0);
     'stood: while o < i {
@@ -75,7 +75,7 @@ fn keep_legs<'a>(
 // What k leaves of a roadmap: the milestones that it does not cover, numbered anew, and of the legs between them those that it does
 // not hit.
 pub fn pruned(map: Roadmap, k: KeepOut, segment: f64) -> Roadmap
-    ensures { milestonesOf result ≡ prunedOf segment k (milestonesOf map) }
+    ensures { milestones_of result ≡ pruned_of segment k (milestones_of map) }
 {
     let rows = map.size();
     let mut az: [f64; 256] = [0.0; 256];

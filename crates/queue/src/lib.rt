@@ -1,11 +1,11 @@
 // The queue of a PRM query's search (document 01, "PRM query"), in lent tables: milestones in the order in which they were reached, each once.
 ghost use Rattle.std.specs.Prelude.{◌∷◌, [], ℕ, ◌≤◌, ◌<◌};
-ghost use Rattle.columns.specs.Columns.{columnsOf};
-ghost use Rattle.legs.specs.Bits.{legAt};
-ghost use Rattle.construct.specs.Construct.{joinedOf};
+ghost use Rattle.columns.specs.Columns.{columns_of};
+ghost use Rattle.legs.specs.Bits.{leg_at};
+ghost use Rattle.construct.specs.Construct.{joined_of};
 ghost use Rattle.state.specs.Rows.{row_at};
 ghost use Rattle.roadmap.specs.View.{span_of};
-ghost use Rattle.queue.specs.Places.{numbersOf};
+ghost use Rattle.queue.specs.Places.{numbers_of};
 ghost use Rattle.queue.specs.Queue.{Queue, Pushed};
 
 use fields::Limits;
@@ -56,7 +56,7 @@ pub fn connect<'a>(
     from: &mut [usize; 256],
 ) -> usize
     requires { (count ≤ 256) × Queue count marks.old seen.old order.old from.old 0 }
-    ensures { Pushed count order.old from.old 0 0 (numbersOf 0 (span_of 0 count (λ (j : ℕ). joinedOf limits segment (columnsOf kinds.now numbers.now keep_outs) radius start (row_at az.now el.now feed.now j)))) marks.new seen.new order.new from.new result }
+    ensures { Pushed count order.old from.old 0 0 (numbers_of 0 (span_of 0 count (λ (j : ℕ). joined_of limits segment (columns_of kinds.now numbers.now keep_outs) radius start (row_at az.now el.now feed.now j)))) marks.new seen.new order.new from.new result }
 {
     let mut n: usize = 0;
     let mut v: usize = 0;
@@ -89,7 +89,7 @@ pub fn spread(
     f: usize,
 ) -> usize
     requires { (u < 256) × (count ≤ 256) × Queue count marks.old seen.old order.old from.old held }
-    ensures { Pushed count order.old from.old held f (numbersOf 0 (span_of 0 count (λ (j : ℕ). legAt legs.now u j))) marks.new seen.new order.new from.new result }
+    ensures { Pushed count order.old from.old held f (numbers_of 0 (span_of 0 count (λ (j : ℕ). leg_at legs.now u j))) marks.new seen.new order.new from.new result }
 {
     let mut n = held;
     let mut v = legs::next_unseen(legs, u, seen, 0);

@@ -1,9 +1,9 @@
 // The rewiring around a new node (document 01, "RRT*"): neighbours that are cheaper under it move.
 ghost use Rattle.std.specs.Prelude.{◌≡◌, ◌≤◌, ◌<◌, ◌+◌, length, take};
-ghost use Rattle.columns.specs.Columns.{columnsOf};
-ghost use Rattle.tree.specs.Table.{statesOf};
+ghost use Rattle.columns.specs.Columns.{columns_of};
+ghost use Rattle.tree.specs.Table.{states_of};
 ghost use Rattle.neighbours.specs.Neighbours.{Numbers};
-ghost use Rattle.rewire.specs.Rewiring.{linksIn, Rewires};
+ghost use Rattle.rewire.specs.Rewiring.{links_in, Rewires};
 
 use choice::Choice;
 use fields::Limits;
@@ -28,7 +28,7 @@ pub fn rewire<'a>(
     choice: Choice,
 )
     requires { (n < 512) × (many ≤ n) × Numbers n many found.now × (length found.now ≡ 512) × (length parent.old ≡ 512) × (length cost.old ≡ 512) }
-    ensures { Rewires limits segment (columnsOf kinds.now numbers.now keep_outs) (statesOf n az.now el.now feed.now) new choice n (linksIn (n + 1) parent.old cost.old) (take many found.now) parent.new cost.new }
+    ensures { Rewires limits segment (columns_of kinds.now numbers.now keep_outs) (states_of n az.now el.now feed.now) new choice n (links_in (n + 1) parent.old cost.old) (take many found.now) parent.new cost.new }
 {
     let mut k: usize = 0;
     'neighbours: while k < many {

@@ -11,11 +11,11 @@ use lib.ListN.{length, set}
 use lib.Seq.{get_or-set_same, get_or-set_other}
 use lib.Ieee.{Float, nan}
 use Rattle.state.specs.declared.State.{State}
-use Rattle.legs.specs.Bits.{legAt}
-use Rattle.roadmap.specs.Map.{Milestone, addOf}
+use Rattle.legs.specs.Bits.{leg_at}
+use Rattle.roadmap.specs.Map.{Milestone, add_of}
 use Rattle.state.specs.Rows.{row_at}
 use Rattle.roadmap.specs.View.{span_of, view_of, Clean, Joins}
-use Rattle.roadmap.proofs.Span.{span-snoc, span_same, span-mark}
+use Rattle.roadmap.proofs.Span.{span_snoc, span_same, span_mark}
 
 module _ (az el feed : List Float) (old : List ℕ) (n : ℕ) (f : ℕ → Bool) (now : List ℕ) (s : State)
     (la : length az ≡ 256) (le : length el ≡ 256) (lf : length feed ≡ 256) (room : n < 256) (clean : Clean old n) (joins : Joins old n n f now) where
@@ -28,64 +28,64 @@ module _ (az el feed : List Float) (old : List ℕ) (n : ℕ) (f : ℕ → Bool)
   abbrev feed' : List Float
   feed' = set feed n s.feed
 
-  cell : (a b : ℕ) → a < n → b < n → legAt now a b ≡ legAt old a b
+  cell : (a b : ℕ) → a < n → b < n → leg_at now a b ≡ leg_at old a b
   cell a b ha hb =
       joins.is a b (omega arith) (omega arith)
-      ∙ rw (ne_eqb a n (λ e. omega arith), ne_eqb b n (λ e. omega arith)) (or-false (legAt old a b || false) ∙ or-false (legAt old a b))
+      ∙ rw (ne_eqb a n (λ e. omega arith), ne_eqb b n (λ e. omega arith)) (or-false (leg_at old a b || false) ∙ or-false (leg_at old a b))
 
-  cell-column : (a : ℕ) → a < n → legAt now a n ≡ f a
-  cell-column a ha = joins.is a n (omega arith) room ∙ rw (clean.column a n (omega arith) room (omega arith), ne_eqb a n (λ e. omega arith), eq-eqb n n refl, lt-ltb a n ha)
+  cell_column : (a : ℕ) → a < n → leg_at now a n ≡ f a
+  cell_column a ha = joins.is a n (omega arith) room ∙ rw (clean.column a n (omega arith) room (omega arith), ne_eqb a n (λ e. omega arith), eq-eqb n n refl, lt-ltb a n ha)
 
-  cell_row : (b : ℕ) → b < n → legAt now n b ≡ f b
+  cell_row : (b : ℕ) → b < n → leg_at now n b ≡ f b
   cell_row b hb = joins.is n b room (omega arith) ∙ rw (clean.row n b room (omega arith) (omega arith), ne_eqb b n (λ e. omega arith), eq-eqb n n refl, lt-ltb b n hb) (or-false (f b))
 
-  cell-last : legAt now n n ≡ false
-  cell-last = joins.is n n room room ∙ rw (clean.row n n room room (omega arith), eq-eqb n n refl, le-ltb n n (omega arith))
+  cell_last : leg_at now n n ≡ false
+  cell_last = joins.is n n room room ∙ rw (clean.row n n room room (omega arith), eq-eqb n n refl, le-ltb n n (omega arith))
 
-  state-same : (a : ℕ) → a < n → row_at az' el' feed' a ≡ row_at az el feed a
-  state-same a ha =
+  state_same : (a : ℕ) → a < n → row_at az' el' feed' a ≡ row_at az el feed a
+  state_same a ha =
       let e : a ≡ n → ⊥ = λ z. omega arith in
       rw (get_or-set_other az n a s.az nan e, get_or-set_other el n a s.el nan e, get_or-set_other feed n a s.feed nan e)
 
-  state-new : row_at az' el' feed' n ≡ s
-  state-new = rw (get_or-set_same az n s.az nan (omega arith), get_or-set_same el n s.el nan (omega arith), get_or-set_same feed n s.feed nan (omega arith))
+  state_new : row_at az' el' feed' n ≡ s
+  state_new = rw (get_or-set_same az n s.az nan (omega arith), get_or-set_same el n s.el nan (omega arith), get_or-set_same feed n s.feed nan (omega arith))
 
-  row_old : (a : ℕ) → a < n → span_of 0 (suc n) (λ (j : ℕ). legAt now a j) ≡ span_of 0 n (λ (j : ℕ). legAt old a j) ++ (f a ∷ [])
+  row_old : (a : ℕ) → a < n → span_of 0 (suc n) (λ (j : ℕ). leg_at now a j) ≡ span_of 0 n (λ (j : ℕ). leg_at old a j) ++ (f a ∷ [])
   row_old a ha =
-      span-snoc 0 n (λ (j : ℕ). legAt now a j)
+      span_snoc 0 n (λ (j : ℕ). leg_at now a j)
       ∙ ap₂ (λ (l : List Bool) (x : Bool). l ++ (x ∷ []))
-      (span_same 0 n (λ (j : ℕ). legAt now a j) (λ (j : ℕ). legAt old a j) (λ j _ h. cell a j ha (omega arith)))
-      (let e : 0 + n ≡ n = omega arith in rw e (cell-column a ha))
+      (span_same 0 n (λ (j : ℕ). leg_at now a j) (λ (j : ℕ). leg_at old a j) (λ j _ h. cell a j ha (omega arith)))
+      (let e : 0 + n ≡ n = omega arith in rw e (cell_column a ha))
 
-  row_new : span_of 0 (suc n) (λ (j : ℕ). legAt now n j) ≡ span_of 0 n f ++ (false ∷ [])
+  row_new : span_of 0 (suc n) (λ (j : ℕ). leg_at now n j) ≡ span_of 0 n f ++ (false ∷ [])
   row_new =
-      span-snoc 0 n (λ (j : ℕ). legAt now n j)
-      ∙ ap₂ (λ (l : List Bool) (x : Bool). l ++ (x ∷ [])) (span_same 0 n (λ (j : ℕ). legAt now n j) f (λ j _ h. cell_row j (omega arith)))
-      (let e : 0 + n ≡ n = omega arith in rw e cell-last)
+      span_snoc 0 n (λ (j : ℕ). leg_at now n j)
+      ∙ ap₂ (λ (l : List Bool) (x : Bool). l ++ (x ∷ [])) (span_same 0 n (λ (j : ℕ). leg_at now n j) f (λ j _ h. cell_row j (omega arith)))
+      (let e : 0 + n ≡ n = omega arith in rw e cell_last)
 
   abbrev entry : ℕ → Milestone
-  entry a = record { at = row_at az' el' feed' a; legs = span_of 0 (suc n) (λ (j : ℕ). legAt now a j) }
+  entry a = record { at = row_at az' el' feed' a; legs = span_of 0 (suc n) (λ (j : ℕ). leg_at now a j) }
 
   abbrev grown : ℕ → Milestone
-  grown a = record { at = row_at az el feed a; legs = span_of 0 n (λ (j : ℕ). legAt old a j) ++ (f a ∷ []) }
+  grown a = record { at = row_at az el feed a; legs = span_of 0 n (λ (j : ℕ). leg_at old a j) ++ (f a ∷ []) }
 
   entry_old : (a : ℕ) → a < n → entry a ≡ grown a
-  entry_old a ha = rw (state-same a ha, row_old a ha)
+  entry_old a ha = rw (state_same a ha, row_old a ha)
 
   entry_new : entry (0 + n) ≡ record { at = s; legs = span_of 0 n f ++ (false ∷ []) }
-  entry_new = let e : 0 + n ≡ n = omega arith in rw (e, state-new, row_new)
+  entry_new = let e : 0 + n ≡ n = omega arith in rw (e, state_new, row_new)
 
-  pub view-add : view_of az' el' feed' now (n + 1) ≡ addOf (view_of az el feed old n) s (span_of 0 n f)
-  unfolding view_of addOf
-  view-add =
+  pub view_add : view_of az' el' feed' now (n + 1) ≡ add_of (view_of az el feed old n) s (span_of 0 n f)
+  unfolding view_of add_of
+  view_add =
       rw (add-one n)
-      (span-snoc 0 n entry
+      (span_snoc 0 n entry
       ∙ ap₂ (λ (l : List Milestone) (x : Milestone). l ++ (x ∷ []))
       (span_same 0 n entry grown (λ j _ h. entry_old j (omega arith))
-      ∙ sym (span-mark 0 n (row_at az el feed) (λ (i : ℕ). span_of 0 n (λ (j : ℕ). legAt old i j)) f)) entry_new)
+      ∙ sym (span_mark 0 n (row_at az el feed) (λ (i : ℕ). span_of 0 n (λ (j : ℕ). leg_at old i j)) f)) entry_new)
 
-  pub clean-add : Clean now (n + 1)
-  clean-add =
+  pub clean_add : Clean now (n + 1)
+  clean_add =
       record {
         row = λ a b ha hb h. joins.is a b ha hb ∙ rw (clean.row a b ha hb (omega arith), ne_eqb a n (λ e. omega arith), le-ltb a n (omega arith)) (and-false (eqb b n));
         column =

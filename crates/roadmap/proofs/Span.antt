@@ -13,44 +13,44 @@ none : (p : ℕ) → p < 0 → ⊥
 none p h = omega arith
 
 module _ {A : Type 0} where
-  pub span-snoc : (i n : ℕ) (f : ℕ → A) → span_of i (suc n) f ≡ span_of i n f ++ (f (i + n) ∷ [])
+  pub span_snoc : (i n : ℕ) (f : ℕ → A) → span_of i (suc n) f ≡ span_of i n f ++ (f (i + n) ∷ [])
   unfolding span_of
-  span-snoc i zero f = let e : i + 0 ≡ i = omega arith in rw e
-  span-snoc i (suc n) f =
+  span_snoc i zero f = let e : i + 0 ≡ i = omega arith in rw e
+  span_snoc i (suc n) f =
       let e : i + 1 + n ≡ i + suc n = omega arith in
-      ap (λ (l : List A). f i ∷ l) (span-snoc (i + 1) n f ∙ ap (λ (j : ℕ). span_of (i + 1) n f ++ (f j ∷ [])) e)
+      ap (λ (l : List A). f i ∷ l) (span_snoc (i + 1) n f ∙ ap (λ (j : ℕ). span_of (i + 1) n f ++ (f j ∷ [])) e)
 
   pub span_same : (i n : ℕ) (f g : ℕ → A) → ((j : ℕ) → i ≤ j → j < i + n → f j ≡ g j) → span_of i n f ≡ span_of i n g
   unfolding span_of
   span_same i zero f g h = refl
   span_same i (suc n) f g h = ap₂ (λ (x : A) (l : List A). x ∷ l) (h i (omega arith) (omega arith)) (span_same (i + 1) n f g (λ j a b. h j (omega arith) (omega arith)))
 
-  pub span-long : (i n : ℕ) (f : ℕ → A) → length (span_of i n f) ≡ n
+  pub span_long : (i n : ℕ) (f : ℕ → A) → length (span_of i n f) ≡ n
   unfolding span_of
-  span-long i zero f = refl
-  span-long i (suc n) f = ap suc (span-long (i + 1) n f)
+  span_long i zero f = refl
+  span_long i (suc n) f = ap suc (span_long (i + 1) n f)
 
-  pub span-get : (i n : ℕ) (f : ℕ → A) (p : ℕ) (d : A) → p < n → get_or (span_of i n f) p d ≡ f (i + p)
+  pub span_get : (i n : ℕ) (f : ℕ → A) (p : ℕ) (d : A) → p < n → get_or (span_of i n f) p d ≡ f (i + p)
   unfolding span_of
-  span-get i zero f p d h = absurd (none p h)
-  span-get i (suc n) f zero d h = let e : i + 0 ≡ i = omega arith in rw e
-  span-get i (suc n) f (suc p) d h =
+  span_get i zero f p d h = absurd (none p h)
+  span_get i (suc n) f zero d h = let e : i + 0 ≡ i = omega arith in rw e
+  span_get i (suc n) f (suc p) d h =
       let e : i + 1 + p ≡ i + suc p = omega arith in
-      span-get (i + 1) n f p d (omega arith) ∙ ap f e
+      span_get (i + 1) n f p d (omega arith) ∙ ap f e
 
-  pub span-over : (i n : ℕ) (f : ℕ → A) (p : ℕ) (d : A) → n ≤ p → get_or (span_of i n f) p d ≡ d
-  span-over i n f p d h = get_or-eq_default (span_of i n f) d (omega (arith, span-long i n f))
+  pub span_over : (i n : ℕ) (f : ℕ → A) (p : ℕ) (d : A) → n ≤ p → get_or (span_of i n f) p d ≡ d
+  span_over i n f p d h = get_or-eq_default (span_of i n f) d (omega (arith, span_long i n f))
 
 module _ {A B : Type 0} where
-  pub span-map : (i n : ℕ) (f : ℕ → A) (g : A → B) → map g (span_of i n f) ≡ span_of i n (λ (j : ℕ). g (f j))
+  pub span_map : (i n : ℕ) (f : ℕ → A) (g : A → B) → map g (span_of i n f) ≡ span_of i n (λ (j : ℕ). g (f j))
   unfolding span_of
-  span-map i zero f g = refl
-  span-map i (suc n) f g = ap (λ (l : List B). g (f i) ∷ l) (span-map (i + 1) n f g)
+  span_map i zero f g = refl
+  span_map i (suc n) f g = ap (λ (l : List B). g (f i) ∷ l) (span_map (i + 1) n f g)
 
 -- each entry's mark for a new milestone
-pub span-mark :
+pub span_mark :
     (i n : ℕ) (at : ℕ → State) (legs : ℕ → List Bool) (f : ℕ → Bool) →
     mark_of (span_of i n (λ (j : ℕ). record { at = at j; legs = legs j })) (span_of i n f) ≡ span_of i n (λ (j : ℕ). record { at = at j; legs = legs j ++ (f j ∷ []) })
 unfolding span_of mark_of
-span-mark i zero at legs f = refl
-span-mark i (suc n) at legs f = ap (λ (l : List (Milestone)). record { at = at i; legs = legs i ++ (f i ∷ []) } ∷ l) (span-mark (i + 1) n at legs f)
+span_mark i zero at legs f = refl
+span_mark i (suc n) at legs f = ap (λ (l : List (Milestone)). record { at = at i; legs = legs i ++ (f i ∷ []) } ∷ l) (span_mark (i + 1) n at legs f)

@@ -8,59 +8,59 @@ use borrow.Author.Tests.{lt-ltb, le-ltb}
 use lib.ListN.{length, get_or, replicate}
 use lib.Ieee.{Float}
 use Rattle.state.specs.declared.State.{State}
-use Rattle.legs.specs.Bits.{legAt}
+use Rattle.legs.specs.Bits.{leg_at}
 use Rattle.legs.proofs.Square.{cleared}
 use Rattle.roadmap.specs.declared.MilestoneAt.TheVariants.{At, Nothing}
-use Rattle.roadmap.specs.Map.{Milestone, milestoneAt, milestoneOf, legOf, flags_of}
+use Rattle.roadmap.specs.Map.{Milestone, milestone_at, milestone_of, leg_of, flags_of}
 use Rattle.state.specs.Rows.{row_at}
 use Rattle.roadmap.specs.View.{span_of, view_of, Clean}
-use Rattle.roadmap.proofs.Span.{span-long, span-map, span-get, span-over}
+use Rattle.roadmap.proofs.Span.{span_long, span_map, span_get, span_over}
 
 module _ (az el feed : List Float) (legs : List ℕ) (n : ℕ) where
   abbrev entry : ℕ → Milestone
-  entry i = record { at = row_at az el feed i; legs = span_of 0 n (λ (j : ℕ). legAt legs i j) }
+  entry i = record { at = row_at az el feed i; legs = span_of 0 n (λ (j : ℕ). leg_at legs i j) }
 
-  pub view-long : length (view_of az el feed legs n) ≡ n
+  pub view_long : length (view_of az el feed legs n) ≡ n
   unfolding view_of
-  view-long = span-long 0 n entry
+  view_long = span_long 0 n entry
 
-  pub view-flags :
+  pub view_flags :
       (joins : State → State → Bool) (s : State) →
       flags_of joins (view_of az el feed legs n) s ≡ span_of 0 n (λ (j : ℕ). joins s (row_at az el feed j))
   unfolding view_of flags_of
-  view-flags joins s = span-map 0 n entry (λ (m : Milestone). joins s m.at)
+  view_flags joins s = span_map 0 n entry (λ (m : Milestone). joins s m.at)
 
-  pub view-none : n ≡ 0 → view_of az el feed legs n ≡ []
+  pub view_none : n ≡ 0 → view_of az el feed legs n ≡ []
   unfolding view_of span_of
-  view-none e = rw e
+  view_none e = rw e
 
   -- the milestone at i
-  pub view-at : (i : ℕ) → i < n → milestoneAt (view_of az el feed legs n) i ≡ entry i
-  unfolding milestoneAt view_of
-  view-at i h = let e : 0 + i ≡ i = omega arith in span-get 0 n entry i _ h ∙ ap entry e
+  pub view_at : (i : ℕ) → i < n → milestone_at (view_of az el feed legs n) i ≡ entry i
+  unfolding milestone_at view_of
+  view_at i h = let e : 0 + i ≡ i = omega arith in span_get 0 n entry i _ h ∙ ap entry e
 
-  pub state-at : (i : ℕ) → i < n → At (row_at az el feed i) ≡ milestoneOf (view_of az el feed legs n) i
-  unfolding milestoneOf
-  state-at i h = rw (view-long, lt-ltb i n h, view-at i h)
+  pub state_at_is : (i : ℕ) → i < n → At (row_at az el feed i) ≡ milestone_of (view_of az el feed legs n) i
+  unfolding milestone_of
+  state_at_is i h = rw (view_long, lt-ltb i n h, view_at i h)
 
-  pub nothing-at : (i : ℕ) → n ≤ i → Nothing ≡ milestoneOf (view_of az el feed legs n) i
-  unfolding milestoneOf
-  nothing-at i h = rw (view-long, le-ltb i n h)
+  pub nothing_at : (i : ℕ) → n ≤ i → Nothing ≡ milestone_of (view_of az el feed legs n) i
+  unfolding milestone_of
+  nothing_at i h = rw (view_long, le-ltb i n h)
 
   -- the leg between i and j
-  pub leg-at : (i j : ℕ) → i < n → j < n → legAt legs i j ≡ legOf (view_of az el feed legs n) i j
-  unfolding legOf
-  leg-at i j h l =
+  pub leg_at_is : (i j : ℕ) → i < n → j < n → leg_at legs i j ≡ leg_of (view_of az el feed legs n) i j
+  unfolding leg_of
+  leg_at_is i j h l =
       let e : 0 + j ≡ j = omega arith in
-      sym (ap (λ (m : Milestone). get_or m.legs j false) (view-at i h) ∙ span-get 0 n (legAt legs i) j false l ∙ ap (legAt legs i) e)
+      sym (ap (λ (m : Milestone). get_or m.legs j false) (view_at i h) ∙ span_get 0 n (leg_at legs i) j false l ∙ ap (leg_at legs i) e)
 
-  pub leg-over : (i j : ℕ) → i < n → n ≤ j → false ≡ legOf (view_of az el feed legs n) i j
-  unfolding legOf
-  leg-over i j h l = sym (ap (λ (m : Milestone). get_or m.legs j false) (view-at i h) ∙ span-over 0 n (legAt legs i) j false l)
+  pub leg_over : (i j : ℕ) → i < n → n ≤ j → false ≡ leg_of (view_of az el feed legs n) i j
+  unfolding leg_of
+  leg_over i j h l = sym (ap (λ (m : Milestone). get_or m.legs j false) (view_at i h) ∙ span_over 0 n (leg_at legs i) j false l)
 
-  pub no-legs : (i j : ℕ) → n ≤ i → false ≡ legOf (view_of az el feed legs n) i j
-  unfolding legOf milestoneAt view_of
-  no-legs i j h = sym (ap (λ (m : Milestone). get_or m.legs j false) (span-over 0 n entry i _ h))
+  pub no_legs : (i j : ℕ) → n ≤ i → false ≡ leg_of (view_of az el feed legs n) i j
+  unfolding leg_of milestone_at view_of
+  no_legs i j h = sym (ap (λ (m : Milestone). get_or m.legs j false) (span_over 0 n entry i _ h))
 
 -- a cleared square has no leg
 pub clean : (k n : ℕ) → Clean (replicate k 0) n

@@ -11,5 +11,5 @@ rows_of joins before (s ∷ after) =
     record { at = s; legs = map (joins s) before ++ (false ∷ map (λ (t : State). joins t s) after) } ∷ rows_of joins (before ++ (s ∷ [])) after
 
 -- all of them, after none
-unfoldable pub roadmapOf : (State → State → Bool) → List State → List Milestone
-roadmapOf joins states = rows_of joins [] states
+unfoldable pub roadmap_of : (State → State → Bool) → List State → List Milestone
+roadmap_of joins states = rows_of joins [] states

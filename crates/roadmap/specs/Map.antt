@@ -11,16 +11,16 @@ pub record Milestone : Type 0 where
   pub legs : List Bool
 
 -- the milestone at i; past the end no number and no leg
-unfoldable pub milestoneAt : List Milestone → ℕ → Milestone
-milestoneAt ms i = get_or ms i (record { at = record { az = nan; el = nan; feed = nan }; legs = [] })
+unfoldable pub milestone_at : List Milestone → ℕ → Milestone
+milestone_at ms i = get_or ms i (record { at = record { az = nan; el = nan; feed = nan }; legs = [] })
 
 -- what a caller reads at i
-unfoldable pub milestoneOf : List Milestone → ℕ → MilestoneAt
-milestoneOf ms i = cond (ltb i (length ms)) (At (milestoneAt ms i).at) Nothing
+unfoldable pub milestone_of : List Milestone → ℕ → MilestoneAt
+milestone_of ms i = cond (ltb i (length ms)) (At (milestone_at ms i).at) Nothing
 
 -- whether a leg joins i and j
-unfoldable pub legOf : List Milestone → ℕ → ℕ → Bool
-legOf ms i j = get_or (milestoneAt ms i).legs j false
+unfoldable pub leg_of : List Milestone → ℕ → ℕ → Bool
+leg_of ms i j = get_or (milestone_at ms i).legs j false
 
 -- each earlier milestone's mark for a new one
 unfoldable pub mark_of : List Milestone → List Bool → List Milestone
@@ -29,8 +29,8 @@ mark_of (m ∷ ms) [] = record { at = m.at; legs = m.legs ++ (false ∷ []) } �
 mark_of (m ∷ ms) (f ∷ fs) = record { at = m.at; legs = m.legs ++ (f ∷ []) } ∷ mark_of ms fs
 
 -- one milestone more, joined to the earlier ones whose flag is set, and not to itself
-unfoldable pub addOf : List Milestone → State → List Bool → List Milestone
-addOf ms s fs = mark_of ms fs ++ (record { at = s; legs = fs ++ (false ∷ []) } ∷ [])
+unfoldable pub add_of : List Milestone → State → List Bool → List Milestone
+add_of ms s fs = mark_of ms fs ++ (record { at = s; legs = fs ++ (false ∷ []) } ∷ [])
 
 -- the flags of a new milestone: which earlier ones it joins
 unfoldable pub flags_of : (State → State → Bool) → List Milestone → State → List Bool

@@ -1,7 +1,7 @@
 // The roadmap of PRM (document 01, "PRM construction"): milestones by columns, and legs as a square of bits.
 ghost use Rattle.std.specs.Prelude.{[], ◌≡◌, length};
-ghost use Rattle.roadmap.specs.Map.{milestoneOf, legOf};
-ghost use Rattle.roadmap.specs.View.{milestonesOf};
+ghost use Rattle.roadmap.specs.Map.{milestone_of, leg_of};
+ghost use Rattle.roadmap.specs.View.{milestones_of};
 
 use state::State;
 
@@ -26,7 +26,7 @@ impl Roadmap {
     pub const MOST: usize = 256;
 
     pub fn empty() -> Roadmap
-        ensures { milestonesOf result ≡ [] }
+        ensures { milestones_of result ≡ [] }
     {
         Roadmap {
             az: [0.0; 256],
@@ -39,14 +39,14 @@ impl Roadmap {
 
     // How many milestones there are. A count past the table reads as its end.
     pub fn size(self) -> usize
-        ensures { result ≡ length (milestonesOf self) }
+        ensures { result ≡ length (milestones_of self) }
     {
         let n = self.count;
         if n < Roadmap::MOST { n } else { Roadmap::MOST }
     }
 
     pub fn milestone(self, i: usize) -> MilestoneAt
-        ensures { result ≡ milestoneOf (milestonesOf self) i }
+        ensures { result ≡ milestone_of (milestones_of self) i }
     {
         let count = self.size();
         if i < count {
@@ -61,7 +61,7 @@ impl Roadmap {
 
     // Whether a leg joins i and j. The neighbours of i are the j of which this is true.
     pub fn has_leg(self, i: usize, j: usize) -> bool
-        ensures { result ≡ legOf (milestonesOf self) i j }
+        ensures { result ≡ leg_of (milestones_of self) i j }
     {
         let count = self.size();
         if i < count {

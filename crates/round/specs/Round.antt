@@ -2,7 +2,7 @@
 -- tree when its size is at most the goal tree's, else the goal tree.
 use Rattle.std.specs.Prelude.{true, false, cond, ◌≡◌, eqb, leb}
 use Rattle.state.specs.declared.State.{State}
-use Rattle.tree.specs.Table.{rootOf}
+use Rattle.tree.specs.Table.{root_of}
 use Rattle.plan.specs.Plan.{Plan}
 use Rattle.turn.specs.declared.Ends.{Ends}
 use Rattle.turn.specs.declared.Ends.TheVariants.{GoesOn}
@@ -15,19 +15,19 @@ pub record Round : Type 0 where
   pub trees : Trees
   pub ends : Ends
 
-unfoldable pub roundOf : Plan → Trees → State → Round
-roundOf p t sample =
-    let planted : Round = record { trees = record { start = t.start; goal = rootOf sample }; ends = GoesOn } in
+unfoldable pub round_of : Plan → Trees → State → Round
+round_of p t sample =
+    let planted : Round = record { trees = record { start = t.start; goal = root_of sample }; ends = GoesOn } in
     let a = turn_of p true t.start t.goal sample in
     let b = turn_of p false t.goal t.start sample in
-    let startGrows : Round = record { trees = record { start = a.growing; goal = a.other }; ends = a.ends } in
-    let goalGrows : Round = record { trees = record { start = b.other; goal = b.growing }; ends = b.ends } in
-    cond (eqb (size_of t.goal) 0) planted (cond (leb (size_of t.start) (size_of t.goal)) startGrows goalGrows)
+    let start_grows : Round = record { trees = record { start = a.growing; goal = a.other }; ends = a.ends } in
+    let goal_grows : Round = record { trees = record { start = b.other; goal = b.growing }; ends = b.ends } in
+    cond (eqb (size_of t.goal) 0) planted (cond (leb (size_of t.start) (size_of t.goal)) start_grows goal_grows)
 
 -- what the code's round gives, and both trees' columns at exit
 pub record Rounds (p : Plan) (t : Trees) (sample : State) (r : Rounded) (c d : Columns) : Type 0 where
   pub round : Round
-  pub is : round ≡ roundOf p t sample
+  pub is : round ≡ round_of p t sample
   pub start : Holds c r.start round.trees.start
   pub goal : Holds d r.goal round.trees.goal
   pub ends : r.ends ≡ round.ends

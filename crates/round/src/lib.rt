@@ -1,10 +1,10 @@
 // One sample on both trees (document 01, "RRT-Connect"): the goal tree's root, or a turn of the tree that is to grow.
 ghost use Rattle.std.specs.Prelude.{◌≤◌, ◌<◌};
-ghost use Rattle.columns.specs.Columns.{columnsOf};
-ghost use Rattle.tree.specs.Table.{rootOf};
+ghost use Rattle.columns.specs.Columns.{columns_of};
+ghost use Rattle.tree.specs.Table.{root_of};
 ghost use Rattle.extend.specs.Extend.{Sized};
-ghost use Rattle.turn.specs.Turn.{planWith, columnsAt, Holds};
-ghost use Rattle.turn.specs.Trees.{treesAt};
+ghost use Rattle.turn.specs.Turn.{plan_with, columns_at, Holds};
+ghost use Rattle.turn.specs.Trees.{trees_at};
 ghost use Rattle.round.specs.Round.{Rounds};
 
 use fields::{Goal, Limits};
@@ -29,7 +29,7 @@ fn plant(
     s: State,
 )
     requires { Sized az.old el.old feed.old parent.old }
-    ensures { Holds (columnsAt az.new el.new feed.new parent.new) 1 (rootOf s) }
+    ensures { Holds (columns_at az.new el.new feed.new parent.new) 1 (root_of s) }
 {
     az[0] = s.az;
     el[0] = s.el;
@@ -60,7 +60,7 @@ pub fn round<'a>(
 ) -> Rounded
     requires n_nonzero { (0 < n) × (n ≤ 512) × Sized az.old el.old feed.old parent.old }
     requires m_bound { (m ≤ 512) × Sized goal_az.old goal_el.old goal_feed.old goal_parent.old }
-    ensures { Rounds (planWith limits segment (columnsOf kinds.now numbers.now keep_outs) max_distance goal) (treesAt n (columnsAt az.old el.old feed.old parent.old) m (columnsAt goal_az.old goal_el.old goal_feed.old goal_parent.old)) sample result (columnsAt az.new el.new feed.new parent.new) (columnsAt goal_az.new goal_el.new goal_feed.new goal_parent.new) }
+    ensures { Rounds (plan_with limits segment (columns_of kinds.now numbers.now keep_outs) max_distance goal) (trees_at n (columns_at az.old el.old feed.old parent.old) m (columns_at goal_az.old goal_el.old goal_feed.old goal_parent.old)) sample result (columns_at az.new el.new feed.new parent.new) (columns_at goal_az.new goal_el.new goal_feed.new goal_parent.new) }
 {
     if m == 0 {
         plant(goal_az, goal_el, goal_feed, goal_parent, sample);

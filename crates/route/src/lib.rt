@@ -1,6 +1,6 @@
 // The route from a tree's root to a node, written to lent memory.
 ghost use Rattle.std.specs.Prelude.{◌≡◌, ◌≤◌, ◌<◌, ◌*◌, ◌+◌, length};
-ghost use Rattle.tree.specs.Table.{nodesIn};
+ghost use Rattle.tree.specs.Table.{nodes_in};
 ghost use Rattle.route.specs.Path.{Depth};
 ghost use Rattle.route.specs.Written.{put_of, Wrote, Appended};
 
@@ -16,7 +16,7 @@ fn depth<'a>(
     node: usize,
 ) -> usize
     requires { (node < count) × (count ≤ 512) }
-    ensures { Depth (nodesIn count az.now el.now feed.now parent.now) node result }
+    ensures { Depth (nodes_in count az.now el.now feed.now parent.now) node result }
 {
     let mut at = node;
     let mut n: usize = 1;
@@ -54,7 +54,7 @@ pub fn reconstruct_path<'a>(
     route: &mut [f64],
 ) -> usize
     requires { (node < count) × (count ≤ 512) × (3 * count ≤ length route.old) }
-    ensures { Wrote (nodesIn count az.now el.now feed.now parent.now) node route.old result route.new }
+    ensures { Wrote (nodes_in count az.now el.now feed.now parent.now) node route.old result route.new }
 {
     let n = depth(az, el, feed, parent, count, node);
     let mut at = node;
@@ -91,7 +91,7 @@ pub fn append_ancestors<'a>(
     from: usize,
 ) -> usize
     requires { (node < count) × (count ≤ 512) × (3 * (from + count) ≤ length route.old + 3) }
-    ensures { Appended (nodesIn count az.now el.now feed.now parent.now) node from route.old result route.new }
+    ensures { Appended (nodes_in count az.now el.now feed.now parent.now) node from route.old result route.new }
 {
     let mut at = node;
     let mut k: usize = 0;

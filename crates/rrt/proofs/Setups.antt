@@ -7,24 +7,24 @@ use Rattle.fields.specs.declared.Limits.{Limits}
 use Rattle.fields.specs.declared.Length.{Length}
 use Rattle.fields.specs.declared.Goal.{Goal}
 use Rattle.keep_out_table.specs.declared.KeepOuts.{KeepOuts}
-use Rattle.tree.specs.Table.{nodesOf, rootedOf}
+use Rattle.tree.specs.Table.{nodes_of, rooted_of}
 use Rattle.tree.specs.declared.Tree.{Tree}
-use Rattle.tree.proofs.Append.{rooted-is}
+use Rattle.tree.proofs.Append.{rooted_is}
 use Rattle.plan.specs.Setup.{setting_of}
 use Rattle.plan.specs.declared.Setting.{Setting}
-use Rattle.plan.proofs.Usable.{usable-root}
+use Rattle.plan.proofs.Usable.{usable_root}
 use Rattle.plan.proofs.Answers as answers
-use Rattle.rrt.specs.Planner.{View, plannerOf, setupOf}
+use Rattle.rrt.specs.Planner.{View, planner_of, setup_of}
 
 module _ (planner : View) (limits : Limits) (segment max : Length) (start : State) (goal : Goal) (table : KeepOuts) (s : Setting) (is : s ≡ setting_of limits segment max start goal table) where
-  pub setup-refused : s.ready ≡ false → record { planner = planner; answer = BadInput } ≡ setupOf planner limits segment max start goal table
-  unfolding setupOf
-  setup-refused e = rw (← is) (answers.setup-refused planner _ _ _ e)
+  pub setup_refused : s.ready ≡ false → record { planner = planner; answer = BadInput } ≡ setup_of planner limits segment max start goal table
+  unfolding setup_of
+  setup_refused e = rw (← is) (answers.setup_refused planner _ _ _ e)
 
-  pub setup-done :
-      s.ready ≡ true → (t : Tree) → t ≡ rootedOf start →
-      record { planner = plannerOf (record { setting = s; tree = t }); answer = Done } ≡ setupOf planner limits segment max start goal table
-  unfolding setupOf plannerOf
-  setup-done e t r =
-      let usable = usable-root _ _ start e (ap (λ (x : Tree). x.count) r) in
-      rw (← is) (answers.setup-done planner _ _ _ e _ usable _ (ap nodesOf r ∙ rooted-is start))
+  pub setup_done :
+      s.ready ≡ true → (t : Tree) → t ≡ rooted_of start →
+      record { planner = planner_of (record { setting = s; tree = t }); answer = Done } ≡ setup_of planner limits segment max start goal table
+  unfolding setup_of planner_of
+  setup_done e t r =
+      let usable = usable_root _ _ start e (ap (λ (x : Tree). x.count) r) in
+      rw (← is) (answers.setup_done planner _ _ _ e _ usable _ (ap nodes_of r ∙ rooted_is start))

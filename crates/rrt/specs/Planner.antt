@@ -6,36 +6,36 @@ use Rattle.fields.specs.declared.Length.{Length}
 use Rattle.fields.specs.declared.Goal.{Goal}
 use Rattle.keep_out.specs.declared.KeepOut.{KeepOut}
 use Rattle.keep_out_table.specs.declared.KeepOuts.{KeepOuts}
-use Rattle.tree.specs.Table.{Nodes, nodesOf, nodeAtOf, rootOf}
+use Rattle.tree.specs.Table.{Nodes, nodes_of, node_at_of, root_of}
 use Rattle.tree.specs.declared.NodeAt.{NodeAt}
 use Rattle.tree.specs.declared.NodeAt.TheVariants.{Nothing}
-use Rattle.plan.specs.Plan.{Plan, plan_of, planUnder, Planner, unset, set, view_of}
-use Rattle.plan.specs.Setup.{Told, setting_of, setupWith, usableOf}
-use Rattle.plan.specs.KeepOut.{addWith}
+use Rattle.plan.specs.Plan.{Plan, plan_of, plan_under, Planner, unset, set, view_of}
+use Rattle.plan.specs.Setup.{Told, setting_of, setup_with, usable_of}
+use Rattle.plan.specs.KeepOut.{add_with}
 use Rattle.rrt.specs.declared.Rrt.{Rrt}
 use Rattle.rrt.specs.declared.Answered.{Answered}
 
 abbrev pub View : Type 0
 View = Planner Plan Nodes
 
-unfoldable pub plannerOf : Rrt → View
-plannerOf p = view_of (usableOf p.setting.ready p.tree.count) (plan_of p.setting) (nodesOf p.tree)
+unfoldable pub planner_of : Rrt → View
+planner_of p = view_of (usable_of p.setting.ready p.tree.count) (plan_of p.setting) (nodes_of p.tree)
 
-abbrev pub newOf : View
-newOf = unset
+abbrev pub new_of : View
+new_of = unset
 
-abbrev pub answeredOf : Answered → Told Plan Nodes
-answeredOf r = record { planner = plannerOf r.planner; answer = r.answer }
+abbrev pub answered_of : Answered → Told Plan Nodes
+answered_of r = record { planner = planner_of r.planner; answer = r.answer }
 
 -- setup empties the tree: it is then its root alone, the start
-unfoldable pub setupOf : View → Limits → Length → Length → State → Goal → KeepOuts → Told Plan Nodes
-setupOf planner limits segment max start goal table =
+unfoldable pub setup_of : View → Limits → Length → Length → State → Goal → KeepOuts → Told Plan Nodes
+setup_of planner limits segment max start goal table =
     let setting = setting_of limits segment max start goal table in
-    setupWith planner setting.ready (plan_of setting) (rootOf start)
+    setup_with planner setting.ready (plan_of setting) (root_of start)
 
 -- a keep-out more for the motions to come; the tree stays
-unfoldable pub addOf : View → KeepOut → Told Plan Nodes
-addOf planner k = addWith (λ (p : Plan). p.keepOuts) planUnder planner k
+unfoldable pub add_of : View → KeepOut → Told Plan Nodes
+add_of planner k = add_with (λ (p : Plan). p.keep_outs) plan_under planner k
 
 -- the tree by index
 unfoldable pub size_of : View → ℕ
@@ -44,4 +44,4 @@ size_of (set plan nodes) = length nodes.states
 
 unfoldable pub node_of : View → ℕ → NodeAt
 node_of unset i = Nothing
-node_of (set plan nodes) i = nodeAtOf nodes i
+node_of (set plan nodes) i = node_at_of nodes i

@@ -3,13 +3,13 @@ use Rattle.std.specs.Prelude.{ℕ, List, Float}
 use Rattle.state.specs.declared.State.{State}
 use Rattle.tree.specs.Table.{Nodes}
 use Rattle.plan.specs.Plan.{Plan}
-use Rattle.plan.specs.Solve.{Ended, Outcome, solveWith}
-use Rattle.rrt.specs.Planner.{View, plannerOf}
+use Rattle.plan.specs.Solve.{Ended, Outcome, solve_with}
+use Rattle.rrt.specs.Planner.{View, planner_of}
 use Rattle.rrt_run.specs.Run.{run_of}
 use Rattle.rrt.specs.declared.Solved.{Solved}
 
-abbrev pub solvedOf : Solved → List Float → Outcome Plan Nodes
-solvedOf r route = record { planner = plannerOf r.planner; answer = r.answer; count = r.count; taken = r.taken; route = route }
+abbrev pub solved_of : Solved → List Float → Outcome Plan Nodes
+solved_of r route = record { planner = planner_of r.planner; answer = r.answer; count = r.count; taken = r.taken; route = route }
 
 -- the length that a route buffer needs
 abbrev pub needed : ℕ
@@ -18,5 +18,5 @@ needed = 1536
 abbrev pub run_from : Plan → Nodes → List State → Ended Nodes
 run_from plan nodes samples = run_of plan nodes 0 samples
 
-unfoldable pub solveOf : View → List Float → List Float → Outcome Plan Nodes
-solveOf planner samples route = solveWith needed run_from planner samples route
+unfoldable pub solve_of : View → List Float → List Float → Outcome Plan Nodes
+solve_of planner samples route = solve_with needed run_from planner samples route

@@ -1,7 +1,7 @@
 // RRT (document 01, "RRT" and "Sizes and answers"): one tree from the start, a sample at a time, until a new node satisfies the goal.
 ghost use Rattle.std.specs.Prelude.{◌≡◌};
-ghost use Rattle.rrt.specs.Planner.{plannerOf, newOf, setupOf, addOf, answeredOf, size_of, node_of};
-ghost use Rattle.rrt.specs.Solve.{solvedOf, solveOf};
+ghost use Rattle.rrt.specs.Planner.{planner_of, new_of, setup_of, add_of, answered_of, size_of, node_of};
+ghost use Rattle.rrt.specs.Solve.{solved_of, solve_of};
 
 use answer::Answer;
 use fields::{Goal, Length, Limits};
@@ -40,7 +40,7 @@ impl Rrt {
 
     // Uninitialised.
     pub fn new() -> Rrt
-        ensures { plannerOf result ≡ newOf }
+        ensures { planner_of result ≡ new_of }
     {
         let zero = State {
             az: 0.0,
@@ -63,7 +63,7 @@ impl Rrt {
         goal: Goal,
         table: KeepOuts,
     ) -> Answered
-        ensures { answeredOf result ≡ setupOf (plannerOf self) limits segment max_distance start goal table }
+        ensures { answered_of result ≡ setup_of (planner_of self) limits segment max_distance start goal table }
     {
         let setting = Setting::new(limits, segment, max_distance, start, goal, table);
         if setting.ready {
@@ -85,7 +85,7 @@ impl Rrt {
 
     // A further solve goes on with the same tree.
     pub fn solve(self, samples: &[f64], route: &mut [f64]) -> Solved
-        ensures { solvedOf result route.new ≡ solveOf (plannerOf self) samples.now route.old }
+        ensures { solved_of result route.new ≡ solve_of (planner_of self) samples.now route.old }
     {
         let setting = self.setting;
         let tree = self.tree;
@@ -137,7 +137,7 @@ impl Rrt {
 
     // Adds a keep-out for the motions to come; what has grown stays.
     pub fn add_keep_out(self, k: KeepOut) -> Answered
-        ensures { answeredOf result ≡ addOf (plannerOf self) k }
+        ensures { answered_of result ≡ add_of (planner_of self) k }
     {
         let setting = self.setting;
         if plan::is_usable(setting.ready, self.tree.count) {
@@ -156,7 +156,7 @@ impl Rrt {
 
     // How many nodes the tree has; none before an accepted setup.
     pub fn size(self) -> usize
-        ensures { result ≡ size_of (plannerOf self) }
+        ensures { result ≡ size_of (planner_of self) }
     {
         let n = self.tree.count;
         if plan::is_usable(self.setting.ready, n) {
@@ -167,7 +167,7 @@ impl Rrt {
     }
 
     pub fn node(self, i: usize) -> NodeAt
-        ensures { result ≡ node_of (plannerOf self) i }
+        ensures { result ≡ node_of (planner_of self) i }
     {
         let tree = self.tree;
         let n = tree.count;

@@ -1,7 +1,7 @@
 // The calls on the RRT planner.
 ghost use Rattle.std.specs.Prelude.{◌≡◌};
-ghost use Rattle.rrt.specs.Planner.{plannerOf};
-ghost use Rattle.rrt_calls.specs.Left.{leftBy, setupFrom, keepoutFrom, solveFrom, call_of};
+ghost use Rattle.rrt.specs.Planner.{planner_of};
+ghost use Rattle.rrt_calls.specs.Left.{left_by, setup_from, keepout_from, solve_from, call_of};
 
 use grammar::Verb;
 use keep_out_table::KeepOuts;
@@ -17,7 +17,7 @@ pub struct Called {
 }
 
 fn setup(out: &mut [u8], planner: Rrt, numbers: &[f64], table: KeepOuts) -> Rrt
-    ensures { plannerOf result ≡ setupFrom (plannerOf planner) numbers.now table }
+    ensures { planner_of result ≡ setup_from (planner_of planner) numbers.now table }
 {
     let f = given::fields_in(numbers);
     let done = planner.setup(f.limits, f.segment, f.reach, f.start, f.goal, table);
@@ -27,7 +27,7 @@ fn setup(out: &mut [u8], planner: Rrt, numbers: &[f64], table: KeepOuts) -> Rrt
 }
 
 fn keepout(out: &mut [u8], planner: Rrt, table: KeepOuts) -> Rrt
-    ensures { plannerOf result ≡ keepoutFrom (plannerOf planner) table }
+    ensures { planner_of result ≡ keepout_from (planner_of planner) table }
 {
     let done = planner.add_keep_out(given::keep_out(table));
     let answer = done.answer;
@@ -37,7 +37,7 @@ fn keepout(out: &mut [u8], planner: Rrt, table: KeepOuts) -> Rrt
 
 // The route buffer is the first capacity numbers of a fresh one.
 fn solve(out: &mut [u8], planner: Rrt, capacity: usize, samples: &[f64]) -> Rrt
-    ensures { plannerOf result ≡ solveFrom (plannerOf planner) capacity samples.now }
+    ensures { planner_of result ≡ solve_from (planner_of planner) capacity samples.now }
 {
     let mut buffer = route_buffer::fresh();
     let route = route_buffer::first(&mut buffer, capacity);
@@ -61,7 +61,7 @@ fn tables(out: &mut [u8], planner: Rrt) {
 
 // The numbers are all that the line has.
 pub fn call(out: &mut [u8], planner: Rrt, line: Line, numbers: &[f64]) -> Called
-    ensures { leftBy result ≡ call_of (plannerOf planner) line numbers.now }
+    ensures { left_by result ≡ call_of (planner_of planner) line numbers.now }
 {
     let verb = line.verb;
     match verb {

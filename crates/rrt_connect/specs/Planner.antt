@@ -7,13 +7,13 @@ use Rattle.fields.specs.declared.Length.{Length}
 use Rattle.fields.specs.declared.Goal.{Goal}
 use Rattle.keep_out.specs.declared.KeepOut.{KeepOut}
 use Rattle.keep_out_table.specs.declared.KeepOuts.{KeepOuts}
-use Rattle.tree.specs.Table.{nodesOf, nodeAtOf, rootOf, noNodes}
+use Rattle.tree.specs.Table.{nodes_of, node_at_of, root_of, no_nodes}
 use Rattle.tree.specs.declared.NodeAt.{NodeAt}
 use Rattle.tree.specs.declared.NodeAt.TheVariants.{Nothing}
-use Rattle.plan.specs.Plan.{Plan, plan_of, planUnder, Planner, unset, set, view_of}
+use Rattle.plan.specs.Plan.{Plan, plan_of, plan_under, Planner, unset, set, view_of}
 use Rattle.plan.specs.Setup as setup
-use Rattle.plan.specs.Setup.{Told, setting_of, setupWith}
-use Rattle.plan.specs.KeepOut.{addWith}
+use Rattle.plan.specs.Setup.{Told, setting_of, setup_with}
+use Rattle.plan.specs.KeepOut.{add_with}
 use Rattle.turn.specs.Trees.{Trees, size_of}
 use Rattle.rrt_connect.specs.declared.RrtConnect.{RrtConnect}
 use Rattle.rrt_connect.specs.declared.Answered.{Answered}
@@ -22,44 +22,44 @@ abbrev pub View : Type 0
 View = Planner Plan Trees
 
 -- the start tree is one that a setup can leave, and the goal tree has at most 512 nodes
-unfoldable pub usableOf : Bool → ℕ → ℕ → Bool
-usableOf ready start goal = setup.usableOf ready start && leb goal 512
+unfoldable pub usable_of : Bool → ℕ → ℕ → Bool
+usable_of ready start goal = setup.usable_of ready start && leb goal 512
 
-unfoldable pub treesOf : RrtConnect → Trees
-treesOf p = record { start = nodesOf p.start_tree; goal = nodesOf p.goal_tree }
+unfoldable pub trees_of : RrtConnect → Trees
+trees_of p = record { start = nodes_of p.start_tree; goal = nodes_of p.goal_tree }
 
-unfoldable pub plannerOf : RrtConnect → View
-plannerOf p =
-    view_of (usableOf p.setting.ready p.start_tree.count p.goal_tree.count) (plan_of p.setting) (treesOf p)
+unfoldable pub planner_of : RrtConnect → View
+planner_of p =
+    view_of (usable_of p.setting.ready p.start_tree.count p.goal_tree.count) (plan_of p.setting) (trees_of p)
 
-abbrev pub newOf : View
-newOf = unset
+abbrev pub new_of : View
+new_of = unset
 
-abbrev pub answeredOf : Answered → Told Plan Trees
-answeredOf r = record { planner = plannerOf r.planner; answer = r.answer }
+abbrev pub answered_of : Answered → Told Plan Trees
+answered_of r = record { planner = planner_of r.planner; answer = r.answer }
 
-unfoldable pub setupOf : View → Limits → Length → Length → State → Goal → KeepOuts → Told Plan Trees
-setupOf planner limits segment max start goal table =
+unfoldable pub setup_of : View → Limits → Length → Length → State → Goal → KeepOuts → Told Plan Trees
+setup_of planner limits segment max start goal table =
     let setting = setting_of limits segment max start goal table in
-    setupWith planner setting.ready (plan_of setting) (record { start = rootOf start; goal = noNodes })
+    setup_with planner setting.ready (plan_of setting) (record { start = root_of start; goal = no_nodes })
 
 -- a keep-out more for the motions to come; the trees stay
-unfoldable pub addOf : View → KeepOut → Told Plan Trees
-addOf planner k = addWith (λ (p : Plan). p.keepOuts) planUnder planner k
+unfoldable pub add_of : View → KeepOut → Told Plan Trees
+add_of planner k = add_with (λ (p : Plan). p.keep_outs) plan_under planner k
 
 -- the trees by index
-unfoldable pub startSizeOf : View → ℕ
-startSizeOf unset = 0
-startSizeOf (set plan trees) = size_of trees.start
+unfoldable pub start_size_of : View → ℕ
+start_size_of unset = 0
+start_size_of (set plan trees) = size_of trees.start
 
-unfoldable pub goalSizeOf : View → ℕ
-goalSizeOf unset = 0
-goalSizeOf (set plan trees) = size_of trees.goal
+unfoldable pub goal_size_of : View → ℕ
+goal_size_of unset = 0
+goal_size_of (set plan trees) = size_of trees.goal
 
-unfoldable pub startNodeOf : View → ℕ → NodeAt
-startNodeOf unset i = Nothing
-startNodeOf (set plan trees) i = nodeAtOf trees.start i
+unfoldable pub start_node_of : View → ℕ → NodeAt
+start_node_of unset i = Nothing
+start_node_of (set plan trees) i = node_at_of trees.start i
 
-unfoldable pub goalNodeOf : View → ℕ → NodeAt
-goalNodeOf unset i = Nothing
-goalNodeOf (set plan trees) i = nodeAtOf trees.goal i
+unfoldable pub goal_node_of : View → ℕ → NodeAt
+goal_node_of unset i = Nothing
+goal_node_of (set plan trees) i = node_at_of trees.goal i

@@ -2,14 +2,14 @@
 use Rattle.std.specs.Prelude.{ℕ, List, Float}
 use Rattle.state.specs.declared.State.{State}
 use Rattle.plan.specs.Plan.{Plan}
-use Rattle.plan.specs.Solve.{Ended, Outcome, solveWith}
+use Rattle.plan.specs.Solve.{Ended, Outcome, solve_with}
 use Rattle.turn.specs.Trees.{Trees}
-use Rattle.rrt_connect.specs.Planner.{View, plannerOf}
+use Rattle.rrt_connect.specs.Planner.{View, planner_of}
 use Rattle.connect_run.specs.Run.{run_of}
 use Rattle.rrt_connect.specs.declared.Solved.{Solved}
 
-abbrev pub solvedOf : Solved → List Float → Outcome Plan Trees
-solvedOf r route = record { planner = plannerOf r.planner; answer = r.answer; count = r.count; taken = r.taken; route = route }
+abbrev pub solved_of : Solved → List Float → Outcome Plan Trees
+solved_of r route = record { planner = planner_of r.planner; answer = r.answer; count = r.count; taken = r.taken; route = route }
 
 -- the length that a route buffer needs
 abbrev pub needed : ℕ
@@ -18,5 +18,5 @@ needed = 3069
 abbrev pub run_from : Plan → Trees → List State → Ended Trees
 run_from plan trees samples = run_of plan trees 0 samples
 
-unfoldable pub solveOf : View → List Float → List Float → Outcome Plan Trees
-solveOf planner samples route = solveWith needed run_from planner samples route
+unfoldable pub solve_of : View → List Float → List Float → Outcome Plan Trees
+solve_of planner samples route = solve_with needed run_from planner samples route

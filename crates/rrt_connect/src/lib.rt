@@ -1,8 +1,8 @@
 // RRT-Connect (document 01, "RRT-Connect" and "Sizes and answers"): two trees, from the start and from the first sample, that grow
 // toward each other.
 ghost use Rattle.std.specs.Prelude.{◌≡◌};
-ghost use Rattle.rrt_connect.specs.Planner.{usableOf, plannerOf, newOf, setupOf, addOf, answeredOf, startSizeOf, goalSizeOf, startNodeOf, goalNodeOf};
-ghost use Rattle.rrt_connect.specs.Solve.{solvedOf, solveOf};
+ghost use Rattle.rrt_connect.specs.Planner.{usable_of, planner_of, new_of, setup_of, add_of, answered_of, start_size_of, goal_size_of, start_node_of, goal_node_of};
+ghost use Rattle.rrt_connect.specs.Solve.{solved_of, solve_of};
 
 use answer::Answer;
 use fields::{Goal, Length, Limits};
@@ -38,7 +38,7 @@ pub struct Solved {
 
 // Whether a setup was accepted, and left trees that a setup can leave.
 fn usable(ready: bool, start: usize, goal: usize) -> bool
-    ensures { result ≡ usableOf ready start goal }
+    ensures { result ≡ usable_of ready start goal }
 {
     if plan::is_usable(ready, start) {
         return goal <= Tree::MOST;
@@ -52,7 +52,7 @@ impl RrtConnect {
 
     // Uninitialised.
     pub fn new() -> RrtConnect
-        ensures { plannerOf result ≡ newOf }
+        ensures { planner_of result ≡ new_of }
     {
         let zero = State {
             az: 0.0,
@@ -76,7 +76,7 @@ impl RrtConnect {
         goal: Goal,
         table: KeepOuts,
     ) -> Answered
-        ensures { answeredOf result ≡ setupOf (plannerOf self) limits segment max_distance start goal table }
+        ensures { answered_of result ≡ setup_of (planner_of self) limits segment max_distance start goal table }
     {
         let setting = Setting::new(limits, segment, max_distance, start, goal, table);
         if setting.ready {
@@ -99,7 +99,7 @@ impl RrtConnect {
 
     // A further solve goes on with the same trees.
     pub fn solve(self, samples: &[f64], route: &mut [f64]) -> Solved
-        ensures { solvedOf result route.new ≡ solveOf (plannerOf self) samples.now route.old }
+        ensures { solved_of result route.new ≡ solve_of (planner_of self) samples.now route.old }
     {
         let setting = self.setting;
         let start = self.start_tree;
@@ -155,7 +155,7 @@ impl RrtConnect {
 
     // Adds a keep-out for the motions to come; what has grown stays.
     pub fn add_keep_out(self, k: KeepOut) -> Answered
-        ensures { answeredOf result ≡ addOf (plannerOf self) k }
+        ensures { answered_of result ≡ add_of (planner_of self) k }
     {
         let setting = self.setting;
         if usable(setting.ready, self.start_tree.count, self.goal_tree.count) {
@@ -174,7 +174,7 @@ impl RrtConnect {
 
     // How many nodes the trees have; none before an accepted setup.
     pub fn start_size(self) -> usize
-        ensures { result ≡ startSizeOf (plannerOf self) }
+        ensures { result ≡ start_size_of (planner_of self) }
     {
         let n = self.start_tree.count;
         if usable(self.setting.ready, n, self.goal_tree.count) {
@@ -185,7 +185,7 @@ impl RrtConnect {
     }
 
     pub fn goal_size(self) -> usize
-        ensures { result ≡ goalSizeOf (plannerOf self) }
+        ensures { result ≡ goal_size_of (planner_of self) }
     {
         let m = self.goal_tree.count;
         if usable(self.setting.ready, self.start_tree.count, m) {
@@ -196,7 +196,7 @@ impl RrtConnect {
     }
 
     pub fn start_node(self, i: usize) -> NodeAt
-        ensures { result ≡ startNodeOf (plannerOf self) i }
+        ensures { result ≡ start_node_of (planner_of self) i }
     {
         let tree = self.start_tree;
         let n = tree.count;
@@ -207,7 +207,7 @@ impl RrtConnect {
     }
 
     pub fn goal_node(self, i: usize) -> NodeAt
-        ensures { result ≡ goalNodeOf (plannerOf self) i }
+        ensures { result ≡ goal_node_of (planner_of self) i }
     {
         let tree = self.goal_tree;
         let m = tree.count;

@@ -1,14 +1,14 @@
 -- Document 01, "Sizes and answers", for RRT*: the route buffer needs 1,536 numbers, and the run gives 0, 3 or 4.
 use Rattle.std.specs.Prelude.{ℕ, List, Float}
 use Rattle.state.specs.declared.State.{State}
-use Rattle.plan.specs.Solve.{Ended, Outcome, solveWith}
+use Rattle.plan.specs.Solve.{Ended, Outcome, solve_with}
 use Rattle.star.specs.Grow.{Costed}
 use Rattle.star_run.specs.Run.{StarPlan, run_of}
-use Rattle.rrt_star.specs.Planner.{View, plannerOf}
+use Rattle.rrt_star.specs.Planner.{View, planner_of}
 use Rattle.rrt_star.specs.declared.Solved.{Solved}
 
-abbrev pub solvedOf : Solved → List Float → Outcome StarPlan Costed
-solvedOf r route = record { planner = plannerOf r.planner; answer = r.answer; count = r.count; taken = r.taken; route = route }
+abbrev pub solved_of : Solved → List Float → Outcome StarPlan Costed
+solved_of r route = record { planner = planner_of r.planner; answer = r.answer; count = r.count; taken = r.taken; route = route }
 
 -- the length that a route buffer needs
 abbrev pub needed : ℕ
@@ -17,5 +17,5 @@ needed = 1536
 abbrev pub run_from : StarPlan → Costed → List State → Ended Costed
 run_from plan tree samples = run_of plan tree 0 samples
 
-unfoldable pub solveOf : View → List Float → List Float → Outcome StarPlan Costed
-solveOf planner samples route = solveWith needed run_from planner samples route
+unfoldable pub solve_of : View → List Float → List Float → Outcome StarPlan Costed
+solve_of planner samples route = solve_with needed run_from planner samples route

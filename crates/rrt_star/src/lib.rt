@@ -1,8 +1,8 @@
 // RRT* (document 01, "RRT*" and "Sizes and answers"): RRT whose new node takes the parent that costs least, and then draws its neighbours
 // under itself where that costs less.
 ghost use Rattle.std.specs.Prelude.{◌≡◌};
-ghost use Rattle.rrt_star.specs.Planner.{plannerOf, newOf, setupOf, addOf, answeredOf, size_of, node_of, costOf};
-ghost use Rattle.rrt_star.specs.Solve.{solvedOf, solveOf};
+ghost use Rattle.rrt_star.specs.Planner.{planner_of, new_of, setup_of, add_of, answered_of, size_of, node_of, cost_of};
+ghost use Rattle.rrt_star.specs.Solve.{solved_of, solve_of};
 
 use answer::Answer;
 use fields::{Goal, Length, Limits};
@@ -50,7 +50,7 @@ impl RrtStar {
 
     // Uninitialised.
     pub fn new() -> RrtStar
-        ensures { plannerOf result ≡ newOf }
+        ensures { planner_of result ≡ new_of }
     {
         let zero = State {
             az: 0.0,
@@ -76,7 +76,7 @@ impl RrtStar {
         goal: Goal,
         table: KeepOuts,
     ) -> Answered
-        ensures { answeredOf result ≡ setupOf (plannerOf self) limits segment max_distance search_radius start goal table }
+        ensures { answered_of result ≡ setup_of (planner_of self) limits segment max_distance search_radius start goal table }
     {
         let setting = Setting::new(limits, segment, max_distance, start, goal, table);
         if setting.ready {
@@ -102,7 +102,7 @@ impl RrtStar {
 
     // A further solve goes on with the same tree.
     pub fn solve(self, samples: &[f64], route: &mut [f64]) -> Solved
-        ensures { solvedOf result route.new ≡ solveOf (plannerOf self) samples.now route.old }
+        ensures { solved_of result route.new ≡ solve_of (planner_of self) samples.now route.old }
     {
         let setting = self.setting;
         let tree = self.tree;
@@ -159,7 +159,7 @@ impl RrtStar {
 
     // Adds a keep-out for the motions to come; what has grown stays.
     pub fn add_keep_out(self, k: KeepOut) -> Answered
-        ensures { answeredOf result ≡ addOf (plannerOf self) k }
+        ensures { answered_of result ≡ add_of (planner_of self) k }
     {
         let setting = self.setting;
         if plan::is_usable(setting.ready, self.tree.count) {
@@ -178,7 +178,7 @@ impl RrtStar {
 
     // How many nodes the tree has; none before an accepted setup.
     pub fn size(self) -> usize
-        ensures { result ≡ size_of (plannerOf self) }
+        ensures { result ≡ size_of (planner_of self) }
     {
         let n = self.tree.count;
         if plan::is_usable(self.setting.ready, n) {
@@ -189,7 +189,7 @@ impl RrtStar {
     }
 
     pub fn node(self, i: usize) -> NodeAt
-        ensures { result ≡ node_of (plannerOf self) i }
+        ensures { result ≡ node_of (planner_of self) i }
     {
         let tree = self.tree;
         let n = tree.count;
@@ -200,7 +200,7 @@ impl RrtStar {
     }
 
     pub fn cost(self, i: usize) -> CostAt
-        ensures { result ≡ costOf (plannerOf self) i }
+        ensures { result ≡ cost_of (planner_of self) i }
     {
         let n = self.tree.count;
         if plan::is_usable(self.setting.ready, n) {

@@ -1,12 +1,12 @@
 // Lists of samples: plain numbers, three to a state (document 01, "Sizes and answers").
 ghost use Rattle.std.specs.Prelude.{◌≡◌};
-ghost use Rattle.samples.specs.Samples.{goodSamples};
+ghost use Rattle.samples.specs.Samples.{good_samples};
 
 use state::State;
 
 // Whether the list may be used: a length that is a multiple of 3, and coordinates alone.
 pub fn are_good(list: &[f64]) -> bool
-    ensures { result ≡ goodSamples list.now }
+    ensures { result ≡ good_samples list.now }
 {
     let over = list.len() % 3;
     if over != 0 {

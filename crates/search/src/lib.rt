@@ -1,12 +1,12 @@
 // The search of a PRM query (document 01, "PRM query"): breadth first over a roadmap from the milestones that the start reaches, and the
 // route to the first one taken from the queue that satisfies the goal.
 ghost use Rattle.std.specs.Prelude.{◌+◌, ◌≤◌, ◌<◌, length};
-ghost use Rattle.keep_out_table.specs.Table.{keepOutsOf};
+ghost use Rattle.keep_out_table.specs.Table.{keep_outs_of};
 ghost use Rattle.state.specs.Rows.{row_at};
-ghost use Rattle.roadmap.specs.View.{milestonesOf};
-ghost use Rattle.route.specs.Path.{pathOf};
-ghost use Rattle.queue.specs.Queue.{queueOf};
-ghost use Rattle.search.specs.Query.{Numbers, tree_of, queryOf, Routed};
+ghost use Rattle.roadmap.specs.View.{milestones_of};
+ghost use Rattle.route.specs.Path.{path_of};
+ghost use Rattle.queue.specs.Queue.{queue_of};
+ghost use Rattle.search.specs.Query.{Numbers, tree_of, query_of, Routed};
 
 use columns::Columns;
 use fields::Goal;
@@ -28,7 +28,7 @@ fn write<'a>(
     route: &mut [f64],
 ) -> usize
     requires { (p < n) × (n ≤ 256) × Numbers n order.now × (771 ≤ length route.old) }
-    ensures { Routed (pathOf (tree_of start (row_at az.now el.now feed.now) (queueOf order.now from.now n)) (p + 1)) route.old result route.new }
+    ensures { Routed (path_of (tree_of start (row_at az.now el.now feed.now) (queue_of order.now from.now n)) (p + 1)) route.old result route.new }
 {
     let mut tree = Tree::rooted(start);
     let mut k: usize = 0;
@@ -63,7 +63,7 @@ pub fn find_route(
     route: &mut [f64],
 ) -> usize
     requires { 771 ≤ length route.old }
-    ensures { Routed (queryOf mount.limits mount.segment.value (keepOutsOf mount.table) radius start goal (milestonesOf map)) route.old result route.new }
+    ensures { Routed (query_of mount.limits mount.segment.value (keep_outs_of mount.table) radius start goal (milestones_of map)) route.old result route.new }
 {
     let columns = Columns::of(mount.table);
     let rows = columns.count;

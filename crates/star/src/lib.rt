@@ -1,7 +1,7 @@
 // One sample of RRT*: a tree step, and if its node is added the choice of its parent and the rewiring around it.
 ghost use Rattle.std.specs.Prelude.{◌≤◌, ◌<◌};
-ghost use Rattle.columns.specs.Columns.{columnsOf};
-ghost use Rattle.star.specs.Grow.{Sized, planWith, treeIn, Grows};
+ghost use Rattle.columns.specs.Columns.{columns_of};
+ghost use Rattle.star.specs.Grow.{Sized, plan_with, tree_in, Grows};
 
 use extend::Verdict;
 use fields::Limits;
@@ -36,7 +36,7 @@ pub fn grow<'a>(
     sample: State,
 ) -> Grown
     requires { (0 < n) × (n ≤ 512) × Sized az.old el.old feed.old parent.old cost.old found.old }
-    ensures { Grows (planWith limits segment (columnsOf kinds.now numbers.now keep_outs) max_distance radius) (treeIn n az.old el.old feed.old parent.old cost.old) sample result az.new el.new feed.new parent.new cost.new found.new }
+    ensures { Grows (plan_with limits segment (columns_of kinds.now numbers.now keep_outs) max_distance radius) (tree_in n az.old el.old feed.old parent.old cost.old) sample result az.new el.new feed.new parent.new cost.new found.new }
 {
     let e = step::step(
         az,

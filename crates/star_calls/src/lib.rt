@@ -1,7 +1,7 @@
 // The calls on the RRT* planner.
 ghost use Rattle.std.specs.Prelude.{◌≡◌};
-ghost use Rattle.rrt_star.specs.Planner.{plannerOf};
-ghost use Rattle.star_calls.specs.Left.{leftBy, setupFrom, keepoutFrom, solveFrom, call_of};
+ghost use Rattle.rrt_star.specs.Planner.{planner_of};
+ghost use Rattle.star_calls.specs.Left.{left_by, setup_from, keepout_from, solve_from, call_of};
 
 use grammar::Verb;
 use keep_out_table::KeepOuts;
@@ -18,7 +18,7 @@ pub struct Called {
 
 // One number more than the other tree planners: search_radius, after max_distance.
 fn setup(out: &mut [u8], planner: RrtStar, numbers: &[f64], table: KeepOuts) -> RrtStar
-    ensures { plannerOf result ≡ setupFrom (plannerOf planner) numbers.now table }
+    ensures { planner_of result ≡ setup_from (planner_of planner) numbers.now table }
 {
     let limits = given::limits(numbers);
     let segment = given::length(numbers, 6);
@@ -41,7 +41,7 @@ fn setup(out: &mut [u8], planner: RrtStar, numbers: &[f64], table: KeepOuts) -> 
 }
 
 fn keepout(out: &mut [u8], planner: RrtStar, table: KeepOuts) -> RrtStar
-    ensures { plannerOf result ≡ keepoutFrom (plannerOf planner) table }
+    ensures { planner_of result ≡ keepout_from (planner_of planner) table }
 {
     let done = planner.add_keep_out(given::keep_out(table));
     let answer = done.answer;
@@ -51,7 +51,7 @@ fn keepout(out: &mut [u8], planner: RrtStar, table: KeepOuts) -> RrtStar
 
 // The route buffer is the first capacity numbers of a fresh one.
 fn solve(out: &mut [u8], planner: RrtStar, capacity: usize, samples: &[f64]) -> RrtStar
-    ensures { plannerOf result ≡ solveFrom (plannerOf planner) capacity samples.now }
+    ensures { planner_of result ≡ solve_from (planner_of planner) capacity samples.now }
 {
     let mut buffer = route_buffer::fresh();
     let route = route_buffer::first(&mut buffer, capacity);
@@ -87,7 +87,7 @@ fn tables(out: &mut [u8], planner: RrtStar) {
 
 // The numbers are all that the line has.
 pub fn call(out: &mut [u8], planner: RrtStar, line: Line, numbers: &[f64]) -> Called
-    ensures { leftBy result ≡ call_of (plannerOf planner) line numbers.now }
+    ensures { left_by result ≡ call_of (planner_of planner) line numbers.now }
 {
     let verb = line.verb;
     match verb {

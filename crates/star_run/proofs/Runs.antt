@@ -6,61 +6,61 @@ use mathlib.Core.Path.{◌≡◌, sym, ◌∙◌, ap}
 use lib.ListN.{length, drop, get_or}
 use lib.Ieee.{Float, nan}
 use Rattle.answer.specs.declared.Answer.TheVariants as answer
-use Rattle.fields.specs.Satisfied.{satisfiedOf}
+use Rattle.fields.specs.Satisfied.{satisfied_of}
 use Rattle.state.specs.declared.State.{State}
-use Rattle.samples.specs.Samples.{samplesOf}
+use Rattle.samples.specs.Samples.{samples_of}
 use Rattle.samples.proofs.Threes.{three}
 use Rattle.extend.specs.declared.Verdict.TheVariants as verdict
-use Rattle.route.specs.Path.{pathOf}
-use Rattle.plan.specs.Solve.{Ended, noRoute}
+use Rattle.route.specs.Path.{path_of}
+use Rattle.plan.specs.Solve.{Ended, no_route}
 use Rattle.star.specs.declared.Grown.{Grown}
-use Rattle.star.specs.Grow.{Costed, treeIn, Step, growOf, Grows}
+use Rattle.star.specs.Grow.{Costed, tree_in, Step, grow_of, Grows}
 use Rattle.star_run.specs.Run.{StarPlan, newest, after_of, run_of}
-use Rattle.star.proofs.Length.{tree-length}
+use Rattle.star.proofs.Length.{tree_length}
 
 -- the run that found its goal at the newest node
 abbrev pub found_at : Costed → ℕ → ℕ → Ended Costed
-found_at tree node taken = record { tables = tree; answer = answer.Done; path = pathOf tree.nodes node; taken = taken }
+found_at tree node taken = record { tables = tree; answer = answer.Done; path = path_of tree.nodes node; taken = taken }
 
-module _ (p : StarPlan) (tree : Costed) (taken : ℕ) (s : State) (ss : List State) (g : Step) (is : g ≡ growOf p.reach tree s) where
-  run-refused : g.verdict ≡ verdict.Refused → run_of p tree taken (s ∷ ss) ≡ run_of p g.tree (taken + 1) ss
+module _ (p : StarPlan) (tree : Costed) (taken : ℕ) (s : State) (ss : List State) (g : Step) (is : g ≡ grow_of p.reach tree s) where
+  run_refused : g.verdict ≡ verdict.Refused → run_of p tree taken (s ∷ ss) ≡ run_of p g.tree (taken + 1) ss
   unfolding run_of after_of
-  run-refused h = rw (← is, h)
+  run_refused h = rw (← is, h)
 
-  run-full : g.verdict ≡ verdict.Full → run_of p tree taken (s ∷ ss) ≡ noRoute g.tree answer.Full (taken + 1)
+  run_full : g.verdict ≡ verdict.Full → run_of p tree taken (s ∷ ss) ≡ no_route g.tree answer.Full (taken + 1)
   unfolding run_of after_of
-  run-full h = rw (← is, h)
+  run_full h = rw (← is, h)
 
   module _ (h : g.verdict ≡ verdict.Added) where
-    run-goal : satisfiedOf p.goal g.at ≡ true → run_of p tree taken (s ∷ ss) ≡ found_at g.tree (newest g.tree) (taken + 1)
+    run_goal : satisfied_of p.goal g.at ≡ true → run_of p tree taken (s ∷ ss) ≡ found_at g.tree (newest g.tree) (taken + 1)
     unfolding run_of after_of
-    run-goal t = rw (← is, h, t)
+    run_goal t = rw (← is, h, t)
 
-    run-added : satisfiedOf p.goal g.at ≡ false → run_of p tree taken (s ∷ ss) ≡ run_of p g.tree (taken + 1) ss
+    run_added : satisfied_of p.goal g.at ≡ false → run_of p tree taken (s ∷ ss) ≡ run_of p g.tree (taken + 1) ss
     unfolding run_of after_of
-    run-added t = rw (← is, h, t)
+    run_added t = rw (← is, h, t)
 
 -- The same over the columns and the list of numbers: `at` is where the next sample stands, and `inv` says that the run so far has come
 -- to these columns with `taken` samples.
 module _ (p : StarPlan) (tree₀ : Costed) (n : ℕ) (az el feed : List Float) (parent : List ℕ) (cost : List Float) (taken : ℕ) (l : List Float) (at : ℕ) (here : at + 3 ≤ length l)
-    (inv : run_of p tree₀ 0 (samplesOf l) ≡ run_of p (treeIn n az el feed parent cost) taken (samplesOf (drop at l))) (r : Grown) (az' el' feed' : List Float) (parent' : List ℕ)
+    (inv : run_of p tree₀ 0 (samples_of l) ≡ run_of p (tree_in n az el feed parent cost) taken (samples_of (drop at l))) (r : Grown) (az' el' feed' : List Float) (parent' : List ℕ)
     (cost' : List Float) (found' : List ℕ)
     (w :
-    Grows p.reach (treeIn n az el feed parent cost) (record { az = get_or l at nan; el = get_or l (at + 1) nan; feed = get_or l (at + 2) nan }) r az' el' feed' parent' cost' found') where
+    Grows p.reach (tree_in n az el feed parent cost) (record { az = get_or l at nan; el = get_or l (at + 1) nan; feed = get_or l (at + 2) nan }) r az' el' feed' parent' cost' found') where
   abbrev whole : Ended Costed
-  whole = run_of p tree₀ 0 (samplesOf l)
+  whole = run_of p tree₀ 0 (samples_of l)
 
   abbrev sample : State
   sample = record { az = get_or l at nan; el = get_or l (at + 1) nan; feed = get_or l (at + 2) nan }
 
   abbrev before : Costed
-  before = treeIn n az el feed parent cost
+  before = tree_in n az el feed parent cost
 
   abbrev after : Costed
-  after = treeIn r.count az' el' feed' parent' cost'
+  after = tree_in r.count az' el' feed' parent' cost'
 
   abbrev rest : List State
-  rest = samplesOf (drop (at + 3) l)
+  rest = samples_of (drop (at + 3) l)
 
   turn : whole ≡ run_of p before taken (sample ∷ rest)
   turn = inv ∙ ap (run_of p before taken) (three l at nan nan nan here)
@@ -68,26 +68,26 @@ module _ (p : StarPlan) (tree₀ : Costed) (n : ℕ) (az el feed : List Float) (
   goes_on : run_of p w.step.tree (taken + 1) rest ≡ run_of p after (taken + 1) rest
   goes_on = ap (λ (t : Costed). run_of p t (taken + 1) rest) (sym w.holds)
 
-  pub turn-refused : r.verdict ≡ verdict.Refused → whole ≡ run_of p after (taken + 1) rest
-  turn-refused h = turn ∙ run-refused p before taken sample rest w.step w.is (sym w.verdict ∙ h) ∙ goes_on
+  pub turn_refused : r.verdict ≡ verdict.Refused → whole ≡ run_of p after (taken + 1) rest
+  turn_refused h = turn ∙ run_refused p before taken sample rest w.step w.is (sym w.verdict ∙ h) ∙ goes_on
 
-  pub turn-full : r.verdict ≡ verdict.Full → whole ≡ noRoute after answer.Full (taken + 1)
-  turn-full h =
-      turn ∙ run-full p before taken sample rest w.step w.is (sym w.verdict ∙ h)
-      ∙ ap (λ (t : Costed). noRoute t answer.Full (taken + 1)) (sym w.holds)
+  pub turn_full : r.verdict ≡ verdict.Full → whole ≡ no_route after answer.Full (taken + 1)
+  turn_full h =
+      turn ∙ run_full p before taken sample rest w.step w.is (sym w.verdict ∙ h)
+      ∙ ap (λ (t : Costed). no_route t answer.Full (taken + 1)) (sym w.holds)
 
-  module _ (h : r.verdict ≡ verdict.Added) (b : Bool) (f : b ≡ satisfiedOf p.goal r.at) where
-    tested : satisfiedOf p.goal w.step.at ≡ b
-    tested = sym (f ∙ ap (satisfiedOf p.goal) w.at)
+  module _ (h : r.verdict ≡ verdict.Added) (b : Bool) (f : b ≡ satisfied_of p.goal r.at) where
+    tested : satisfied_of p.goal w.step.at ≡ b
+    tested = sym (f ∙ ap (satisfied_of p.goal) w.at)
 
-    newest-is : newest after ≡ r.count - 1
-    newest-is = ap (λ (k : ℕ). k - 1) (tree-length r.count az' el' feed' parent' cost' w.room)
+    newest_is : newest after ≡ r.count - 1
+    newest_is = ap (λ (k : ℕ). k - 1) (tree_length r.count az' el' feed' parent' cost' w.room)
 
-    pub turn-goal : b ≡ true → whole ≡ found_at after (r.count - 1) (taken + 1)
-    turn-goal t =
-        turn ∙ run-goal p before taken sample rest w.step w.is (sym w.verdict ∙ h) (tested ∙ t)
+    pub turn_goal : b ≡ true → whole ≡ found_at after (r.count - 1) (taken + 1)
+    turn_goal t =
+        turn ∙ run_goal p before taken sample rest w.step w.is (sym w.verdict ∙ h) (tested ∙ t)
         ∙ ap (λ (x : Costed). found_at x (newest x) (taken + 1)) (sym w.holds)
-        ∙ ap (λ (k : ℕ). found_at after k (taken + 1)) newest-is
+        ∙ ap (λ (k : ℕ). found_at after k (taken + 1)) newest_is
 
-    pub turn-added : b ≡ false → whole ≡ run_of p after (taken + 1) rest
-    turn-added t = turn ∙ run-added p before taken sample rest w.step w.is (sym w.verdict ∙ h) (tested ∙ t) ∙ goes_on
+    pub turn_added : b ≡ false → whole ≡ run_of p after (taken + 1) rest
+    turn_added t = turn ∙ run_added p before taken sample rest w.step w.is (sym w.verdict ∙ h) (tested ∙ t) ∙ goes_on

@@ -2,21 +2,21 @@
 -- new node. An accepted motion that would add node 513 is answered with 4, and a list that is used up with 3.
 use Rattle.std.specs.Prelude.{ℕ, ◌+◌, ◌-◌, ◌≤◌, ◌<◌, cond, List, [], ◌∷◌, ◌≡◌, length, Float}
 use Rattle.answer.specs.declared.Answer.TheVariants as answer
-use Rattle.fields.specs.Satisfied.{satisfiedOf}
+use Rattle.fields.specs.Satisfied.{satisfied_of}
 use Rattle.state.specs.declared.State.{State}
 use Rattle.fields.specs.declared.Goal.{Goal}
 use Rattle.fields.specs.declared.Length.{Length}
-use Rattle.keep_out_table.specs.Table.{keepOutsOf}
+use Rattle.keep_out_table.specs.Table.{keep_outs_of}
 use Rattle.keep_out.specs.declared.KeepOut.{KeepOut}
 use Rattle.mount.specs.declared.Mount.{Mount}
-use Rattle.samples.specs.Samples.{samplesOf}
+use Rattle.samples.specs.Samples.{samples_of}
 use Rattle.tree.specs.declared.Tree.{Tree}
 use Rattle.extend.specs.declared.Verdict.{Verdict}
 use Rattle.extend.specs.declared.Verdict.TheVariants as verdict
-use Rattle.route.specs.Path.{pathOf}
+use Rattle.route.specs.Path.{path_of}
 use Rattle.route.specs.Written.{written_of}
-use Rattle.plan.specs.Solve.{Ended, noRoute}
-use Rattle.star.specs.Grow.{Reach, Costed, treeIn, growOf}
+use Rattle.plan.specs.Solve.{Ended, no_route}
+use Rattle.star.specs.Grow.{Reach, Costed, tree_in, grow_of}
 use Rattle.star_run.specs.declared.Ran.{Ran}
 
 -- what a setup gave, without the start
@@ -25,14 +25,14 @@ pub record StarPlan : Type 0 where
   pub goal : Goal
 
 -- the plan that the code's values make
-abbrev pub starPlan : Mount → Length → Length → Goal → StarPlan
-starPlan mount max radius goal =
+abbrev pub star_plan : Mount → Length → Length → Goal → StarPlan
+star_plan mount max radius goal =
     record {
       reach =
           record {
             limits = mount.limits;
             segment = mount.segment.value;
-            keepOuts = keepOutsOf mount.table;
+            keep_outs = keep_outs_of mount.table;
             max = max.value;
             radius = radius.value;
           };
@@ -40,14 +40,14 @@ starPlan mount max radius goal =
     }
 
 -- the same under another list of keep-outs
-abbrev pub starUnder : StarPlan → List KeepOut → StarPlan
-starUnder p ks =
+abbrev pub star_under : StarPlan → List KeepOut → StarPlan
+star_under p ks =
     let r = p.reach in
-    record { reach = record { limits = r.limits; segment = r.segment; keepOuts = ks; max = r.max; radius = r.radius }; goal = p.goal }
+    record { reach = record { limits = r.limits; segment = r.segment; keep_outs = ks; max = r.max; radius = r.radius }; goal = p.goal }
 
 -- the tree of a table with its column of costs
 abbrev pub tree_of : Tree → List Float → Costed
-tree_of t cost = treeIn t.count t.az t.el t.feed t.parent cost
+tree_of t cost = tree_in t.count t.az t.el t.feed t.parent cost
 
 -- the newest node
 abbrev pub newest : Costed → ℕ
@@ -56,22 +56,22 @@ newest tree = length tree.nodes.states - 1
 -- what follows a sample's step: `later` is the run over the samples that are left
 unfoldable pub after_of : Goal → Costed → Verdict → State → ℕ → Ended Costed → Ended Costed
 after_of goal tree verdict.Refused at taken later = later
-after_of goal tree verdict.Full at taken later = noRoute tree answer.Full taken
+after_of goal tree verdict.Full at taken later = no_route tree answer.Full taken
 after_of goal tree verdict.Added at taken later =
-    let found : Ended Costed = record { tables = tree; answer = answer.Done; path = pathOf tree.nodes (newest tree); taken = taken } in
-    cond (satisfiedOf goal at) found later
+    let found : Ended Costed = record { tables = tree; answer = answer.Done; path = path_of tree.nodes (newest tree); taken = taken } in
+    cond (satisfied_of goal at) found later
 
 unfoldable pub run_of : StarPlan → Costed → ℕ → List State → Ended Costed
-run_of p tree taken [] = noRoute tree answer.SamplesEnded taken
+run_of p tree taken [] = no_route tree answer.SamplesEnded taken
 run_of p tree taken (s ∷ ss) =
-    let g = growOf p.reach tree s in
+    let g = grow_of p.reach tree s in
     let later = run_of p g.tree (taken + 1) ss in
     after_of p.goal g.tree g.verdict g.at (taken + 1) later
 
 -- what the code's run gives
 pub record Runs (mount : Mount) (max radius : Length) (goal : Goal) (rooted : Tree) (costs : List Float) (samples old : List Float) (r : Ran) (new : List Float) : Type 0 where
   pub ended : Ended Costed
-  pub is : ended ≡ run_of (starPlan mount max radius goal) (tree_of rooted costs) 0 (samplesOf samples)
+  pub is : ended ≡ run_of (star_plan mount max radius goal) (tree_of rooted costs) 0 (samples_of samples)
   pub tree : tree_of r.tree r.cost ≡ ended.tables
   pub answer : r.answer ≡ ended.answer
   pub count : r.count ≡ length ended.path

@@ -11,14 +11,14 @@ use lib.Ieee.{Float, nan, inf, fin, binary64, up, down, below, sub, neg, lt, eq,
 use lib.Ieee.Bits.{of_bits-to_bits, to_bits-lt, nan_bits_is}
 use lib.Ieee.Fits.{sub-fits, up_pos}
 use lib.Ieee.Compare.{differs_from_itself}
-use Rattle.state.specs.Distance.{apartOf, widerOf}
+use Rattle.state.specs.Distance.{apart_of, wider_of}
 
-kept : (m x : Float) → lt m x ≡ false → widerOf m x ≡ m
-unfolding widerOf
+kept : (m x : Float) → lt m x ≡ false → wider_of m x ≡ m
+unfolding wider_of
 kept m x e = rw e
 
-took : (m x : Float) → lt m x ≡ true → widerOf m x ≡ x
-unfolding widerOf
+took : (m x : Float) → lt m x ≡ true → wider_of m x ≡ x
+unfolding wider_of
 took m x e = rw e
 
 unfoldable pub size_of : Float → Float
@@ -75,8 +75,8 @@ no_number v e = differs_from_itself v (subst (λ (b : Bool). T (not b)) (sym e) 
 none : (x y a : ℕ) → ltb a (0 * x * y) ≡ false
 none x y a = rw (zero-mul x, zero-mul y) (le-ltb a 0 (omega arith))
 
-not-under : (x d : ℕ) → ltb (x * 1) (0 * d) ≡ false
-not-under x d = rw (zero-mul d) (le-ltb (x * 1) 0 (omega arith))
+not_under : (x d : ℕ) → ltb (x * 1) (0 * d) ≡ false
+not_under x d = rw (zero-mul d) (le-ltb (x * 1) 0 (omega arith))
 
 nothing : (u d : ℕ) → ltb 0 (0 * u * 1 + 0 * d) ≡ false
 nothing u d = rw (zero-mul u, zero-mul d) (le-ltb 0 0 (omega arith))
@@ -101,34 +101,34 @@ under (fin false n d) false e h = none (up e) (down d) (n * up d * down e)
 under (fin false n d) true e h = refl
 under (fin true n d) t e h = pick t (n * up d) (down e) (up e) (down d) (gone (n * up d) (down d) h)
 
-pub size-up : (v : Float) → lt (size_of v) (of_bits binary64 0) ≡ false
+pub size_up : (v : Float) → lt (size_of v) (of_bits binary64 0) ≡ false
 unfolding lt of_bits size_of
-size-up nan = refl
-size-up (inf s) = refl
-size-up (fin s m e) = not-under (m * up e) (down e)
+size_up nan = refl
+size_up (inf s) = refl
+size_up (fin s m e) = not_under (m * up e) (down e)
 
 module _ (m : Float) (h : lt m (of_bits binary64 0) ≡ false) where
   -- for the running number it is the same whether a zero has a sign
-  pub wider-size : (v : Float) → is_nan v ≡ false → widerOf m (cond (lt v (of_bits binary64 0)) (neg v) v) ≡ widerOf m (size_of v)
+  pub wider_size : (v : Float) → is_nan v ≡ false → wider_of m (cond (lt v (of_bits binary64 0)) (neg v) v) ≡ wider_of m (size_of v)
   unfolding lt of_bits size_of neg is_nan
-  wider-size nan k = absurd (subst T k tt)
-  wider-size (inf true) k = refl
-  wider-size (inf false) k = refl
-  wider-size (fin false n e) k = ap (λ (b : Bool). widerOf m (cond b (fin true n e) (fin false n e))) (not-under (n * up e) (down e))
-  wider-size (fin true zero e) k =
-      ap (λ (b : Bool). widerOf m (cond b (fin false 0 e) (fin true 0 e))) (nothing (up e) (down e))
+  wider_size nan k = absurd (subst T k tt)
+  wider_size (inf true) k = refl
+  wider_size (inf false) k = refl
+  wider_size (fin false n e) k = ap (λ (b : Bool). wider_of m (cond b (fin true n e) (fin false n e))) (not_under (n * up e) (down e))
+  wider_size (fin true zero e) k =
+      ap (λ (b : Bool). wider_of m (cond b (fin false 0 e) (fin true 0 e))) (nothing (up e) (down e))
       ∙ kept m (fin true 0 e) (under m true e h)
       ∙ sym (kept m (fin false 0 e) (under m false e h))
-  wider-size (fin true (suc n) e) k =
-      ap (λ (b : Bool). widerOf m (cond b (fin false (suc n) e) (fin true (suc n) e))) (some (suc n * up e) (down e) (mul-pos (omega arith) (up_pos e)))
+  wider_size (fin true (suc n) e) k =
+      ap (λ (b : Bool). wider_of m (cond b (fin false (suc n) e) (fin true (suc n) e))) (some (suc n * up e) (down e) (mul-pos (omega arith) (up_pos e)))
 
 -- ---- what the code does with the difference v of a and b
 module _ (a b : Float) (is : eq (sub binary64 a b) (sub binary64 a b) ≡ true) where
   masks : of_bits binary64 (bit_and (to_bits binary64 (sub binary64 a b)) 9223372036854775807) ≡ size_of (sub binary64 a b)
   masks = masked (sub binary64 a b) (sub-fits binary64 a b) (some_number (sub binary64 a b) is)
 
-  pub has-bits : T (not (is_nan (sub binary64 a b)))
-  has-bits = subst (λ (x : Bool). T (not x)) (sym (some_number (sub binary64 a b) is)) tt
+  pub has_bits : T (not (is_nan (sub binary64 a b)))
+  has_bits = subst (λ (x : Bool). T (not x)) (sym (some_number (sub binary64 a b) is)) tt
 
   sized : (v : Float) → is_nan v ≡ false → is_nan (size_of v) ≡ false
   unfolding is_nan size_of
@@ -136,39 +136,39 @@ module _ (a b : Float) (is : eq (sub binary64 a b) (sub binary64 a b) ≡ true) 
   sized (inf s) e = refl
   sized (fin s m d) e = refl
 
-  pub of-bits : T (not (nan_bits binary64 (bit_and (to_bits binary64 (sub binary64 a b)) 9223372036854775807)))
-  of-bits =
+  pub of_bits_number : T (not (nan_bits binary64 (bit_and (to_bits binary64 (sub binary64 a b)) 9223372036854775807)))
+  of_bits_number =
       subst (λ (x : Bool). T (not x))
       (sym (nan_bits_is binary64 (bit_and (to_bits binary64 (sub binary64 a b)) 9223372036854775807) ∙ ap is_nan masks ∙ sized _ (some_number (sub binary64 a b) is)))
       tt
 
   module _ (m : Float) (h : lt m (of_bits binary64 0) ≡ false) where
-    wides : widerOf m (apartOf a b) ≡ widerOf m (of_bits binary64 (bit_and (to_bits binary64 (sub binary64 a b)) 9223372036854775807))
-    unfolding apartOf
-    wides = wider-size m h (sub binary64 a b) (some_number (sub binary64 a b) is) ∙ ap (widerOf m) (sym masks)
+    wides : wider_of m (apart_of a b) ≡ wider_of m (of_bits binary64 (bit_and (to_bits binary64 (sub binary64 a b)) 9223372036854775807))
+    unfolding apart_of
+    wides = wider_size m h (sub binary64 a b) (some_number (sub binary64 a b) is) ∙ ap (wider_of m) (sym masks)
 
     pub larger :
         let f = of_bits binary64 (bit_and (to_bits binary64 (sub binary64 a b)) 9223372036854775807) in
-        lt m f ≡ true → (f ≡ widerOf m (apartOf a b)) × (lt f (of_bits binary64 0) ≡ false)
-    larger e = (sym (wides ∙ took m _ e), ap (λ (x : Float). lt x (of_bits binary64 0)) masks ∙ size-up (sub binary64 a b))
+        lt m f ≡ true → (f ≡ wider_of m (apart_of a b)) × (lt f (of_bits binary64 0) ≡ false)
+    larger e = (sym (wides ∙ took m _ e), ap (λ (x : Float). lt x (of_bits binary64 0)) masks ∙ size_up (sub binary64 a b))
 
-    pub no-larger :
+    pub no_larger :
         let f = of_bits binary64 (bit_and (to_bits binary64 (sub binary64 a b)) 9223372036854775807) in
-        lt m f ≡ false → m ≡ widerOf m (apartOf a b)
-    no-larger e = sym (wides ∙ kept m _ e)
+        lt m f ≡ false → m ≡ wider_of m (apart_of a b)
+    no_larger e = sym (wides ∙ kept m _ e)
 
 -- no number is the larger
-beside-nan : (m : Float) → lt m nan ≡ false
+beside_nan : (m : Float) → lt m nan ≡ false
 unfolding lt
-beside-nan nan = refl
-beside-nan (inf s) = refl
-beside-nan (fin s n e) = refl
+beside_nan nan = refl
+beside_nan (inf s) = refl
+beside_nan (fin s n e) = refl
 
-apart-nan : (v : Float) → v ≡ nan → cond (lt v (of_bits binary64 0)) (neg v) v ≡ nan
+apart_nan : (v : Float) → v ≡ nan → cond (lt v (of_bits binary64 0)) (neg v) v ≡ nan
 unfolding lt
-apart-nan v e = rw e
+apart_nan v e = rw e
 
-pub no-number-larger : (a b m : Float) → eq (sub binary64 a b) (sub binary64 a b) ≡ false → m ≡ widerOf m (apartOf a b)
-unfolding apartOf
-no-number-larger a b m e =
-    sym (ap (widerOf m) (apart-nan (sub binary64 a b) (no_number (sub binary64 a b) e)) ∙ kept m nan (beside-nan m))
+pub no_number_larger : (a b m : Float) → eq (sub binary64 a b) (sub binary64 a b) ≡ false → m ≡ wider_of m (apart_of a b)
+unfolding apart_of
+no_number_larger a b m e =
+    sym (ap (wider_of m) (apart_nan (sub binary64 a b) (no_number (sub binary64 a b) e)) ∙ kept m nan (beside_nan m))

@@ -4,7 +4,7 @@ use Rattle.std.specs.Float.{binary64}
 use Rattle.std.specs.Float.Ieee.{le, of_bits}
 use Rattle.state.specs.declared.State.{State}
 
--- -1,024 and 1,024, the range of a coordinate (`constants-are` in the crate examples computes what these bits are)
+-- -1,024 and 1,024, the range of a coordinate (`constants_are` in the crate examples computes what these bits are)
 abbrev pub lowest : Float
 lowest = of_bits binary64 0xc090_0000_0000_0000
 
@@ -12,25 +12,25 @@ abbrev pub highest : Float
 highest = of_bits binary64 0x4090_0000_0000_0000
 
 -- from low to high, ends included
-unfoldable pub insideOf : Float → Float → Float → Bool
-insideOf low high x = le low x && le x high
+unfoldable pub inside_of : Float → Float → Float → Bool
+inside_of low high x = le low x && le x high
 
 -- an input coordinate is accepted if finite and from -1,024 to 1,024
-unfoldable pub coordinateOf : Float → Bool
-coordinateOf x = insideOf lowest highest x
+unfoldable pub coordinate_of : Float → Bool
+coordinate_of x = inside_of lowest highest x
 
-unfoldable pub goodState : State → Bool
-goodState s = coordinateOf s.az && coordinateOf s.el && coordinateOf s.feed
+unfoldable pub good_state : State → Bool
+good_state s = coordinate_of s.az && coordinate_of s.el && coordinate_of s.feed
 
 -- each axis within low and high, ends included
-unfoldable pub withinOf : State → State → State → Bool
-withinOf low high s =
-    insideOf low.az high.az s.az && insideOf low.el high.el s.el && insideOf low.feed high.feed s.feed
+unfoldable pub within_of : State → State → State → Bool
+within_of low high s =
+    inside_of low.az high.az s.az && inside_of low.el high.el s.el && inside_of low.feed high.feed s.feed
 
 -- low at most high, on each axis
-unfoldable pub atMostOf : State → State → Bool
-atMostOf low high = le low.az high.az && le low.el high.el && le low.feed high.feed
+unfoldable pub at_most_of : State → State → Bool
+at_most_of low high = le low.az high.az && le low.el high.el && le low.feed high.feed
 
 -- lows and highs obey the coordinate range, low at most high
-unfoldable pub goodSpan : State → State → Bool
-goodSpan low high = goodState low && goodState high && atMostOf low high
+unfoldable pub good_span : State → State → Bool
+good_span low high = good_state low && good_state high && at_most_of low high

@@ -6,16 +6,16 @@ use Rattle.state.specs.Distance.{distance_of}
 use Rattle.state.specs.declared.State.{State}
 
 -- from + (to - from) * t, three rounded operations in that order
-abbrev pub alongOf : Float → Float → Float → Float
-alongOf from to t = add binary64 from (mul binary64 (sub binary64 to from) t)
+abbrev pub along_of : Float → Float → Float → Float
+along_of from to t = add binary64 from (mul binary64 (sub binary64 to from) t)
 
-unfoldable pub interpolateOf : State → State → Float → State
-interpolateOf from to t =
-    record { az = alongOf from.az to.az t; el = alongOf from.el to.el t; feed = alongOf from.feed to.feed t }
+unfoldable pub interpolate_of : State → State → Float → State
+interpolate_of from to t =
+    record { az = along_of from.az to.az t; el = along_of from.el to.el t; feed = along_of from.feed to.feed t }
 
 -- if the least distance exceeds max_distance, the interpolation from that node at t = max_distance / least; otherwise the sample itself
-unfoldable pub steerBy : Float → Float → State → State → State
-steerBy max least near sample = cond (lt max least) (interpolateOf near sample (div binary64 max least)) sample
+unfoldable pub steer_by_of : Float → Float → State → State → State
+steer_by_of max least near sample = cond (lt max least) (interpolate_of near sample (div binary64 max least)) sample
 
-unfoldable pub steerOf : Float → State → State → State
-steerOf max near sample = steerBy max (distance_of near sample) near sample
+unfoldable pub steer_of : Float → State → State → State
+steer_of max near sample = steer_by_of max (distance_of near sample) near sample

@@ -3,10 +3,10 @@
 ghost use Rattle.std.specs.Prelude.{◌≡◌, false};
 ghost use Rattle.std.specs.Float.{binary64};
 ghost use Rattle.std.specs.Float.Ieee.{lt, of_bits};
-ghost use Rattle.state.specs.Ranges.{insideOf, withinOf, coordinateOf, goodState, atMostOf, goodSpan};
+ghost use Rattle.state.specs.Ranges.{inside_of, within_of, coordinate_of, good_state, at_most_of, good_span};
 ghost use Rattle.state.specs.Made.{state_of};
-ghost use Rattle.state.specs.Distance.{apartOf, widerOf, distance_of};
-ghost use Rattle.state.specs.Steering.{interpolateOf, steerBy, steerOf};
+ghost use Rattle.state.specs.Distance.{apart_of, wider_of, distance_of};
+ghost use Rattle.state.specs.Steering.{interpolate_of, steer_by_of, steer_of};
 
 // Azimuth, elevation and feed rotation: one record that travels by value.
 #[derive(Drop)]
@@ -24,7 +24,7 @@ pub enum StateMade {
 
 // From low to high, ends included.
 pub fn inside(low: f64, high: f64, x: f64) -> bool
-    ensures { result ≡ insideOf low high x }
+    ensures { result ≡ inside_of low high x }
 {
     if low <= x { x <= high } else { false }
 }
@@ -33,7 +33,7 @@ pub fn inside(low: f64, high: f64, x: f64) -> bool
 // number that is none is what `to_bits` wants, and the compiler drops it.
 fn widened(m: f64, a: f64, b: f64) -> f64
     requires { lt m (of_bits binary64 0) ≡ false }
-    ensures { (result ≡ widerOf m (apartOf a b)) × (lt result (of_bits binary64 0) ≡ false) }
+    ensures { (result ≡ wider_of m (apart_of a b)) × (lt result (of_bits binary64 0) ≡ false) }
 {
     let e = a - b;
     if e == e {
@@ -64,13 +64,13 @@ impl State {
 
     // A coordinate is finite and in its range; -0.0 is taken.
     pub fn is_coordinate(x: f64) -> bool
-        ensures { result ≡ coordinateOf x }
+        ensures { result ≡ coordinate_of x }
     {
         inside(State::LOWEST, State::HIGHEST, x)
     }
 
     pub fn is_good(self) -> bool
-        ensures { result ≡ goodState self }
+        ensures { result ≡ good_state self }
     {
         if State::is_coordinate(self.az) {
             if State::is_coordinate(self.el) {
@@ -82,7 +82,7 @@ impl State {
 
     // Each axis from low to high, ends included.
     pub fn within(self, low: State, high: State) -> bool
-        ensures { result ≡ withinOf low high self }
+        ensures { result ≡ within_of low high self }
     {
         if inside(low.az, high.az, self.az) {
             if inside(low.el, high.el, self.el) {
@@ -94,7 +94,7 @@ impl State {
 
     // At most high on each axis.
     fn at_most(self, high: State) -> bool
-        ensures { result ≡ atMostOf self high }
+        ensures { result ≡ at_most_of self high }
     {
         if self.az <= high.az {
             if self.el <= high.el {
@@ -106,7 +106,7 @@ impl State {
 
     // Two good states, low at most high: what limits and a box are.
     pub fn spans(self, high: State) -> bool
-        ensures { result ≡ goodSpan self high }
+        ensures { result ≡ good_span self high }
     {
         if self.is_good() {
             if high.is_good() {
@@ -127,7 +127,7 @@ impl State {
 
     // The state at the part t of the way from self to to.
     pub fn interpolate(self, to: State, t: f64) -> State
-        ensures { result ≡ interpolateOf self to t }
+        ensures { result ≡ interpolate_of self to t }
     {
         State {
             az: self.az + (to.az - self.az) * t,
@@ -138,7 +138,7 @@ impl State {
 
     // The new state of a tree step from self, whose distance to the sample is least: at most max_distance on the way.
     pub fn steer_by(self, sample: State, max_distance: f64, least: f64) -> State
-        ensures { result ≡ steerBy max_distance least self sample }
+        ensures { result ≡ steer_by_of max_distance least self sample }
     {
         if max_distance < least {
             self.interpolate(sample, max_distance / least)
@@ -148,7 +148,7 @@ impl State {
     }
 
     pub fn steer(self, sample: State, max_distance: f64) -> State
-        ensures { result ≡ steerOf max_distance self sample }
+        ensures { result ≡ steer_of max_distance self sample }
     {
         self.steer_by(sample, max_distance, self.distance(sample))
     }

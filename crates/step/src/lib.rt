@@ -1,7 +1,7 @@
 // One tree step (document 01, "Tree step").
 ghost use Rattle.std.specs.Prelude.{◌≡◌, ◌≤◌, ◌<◌};
-ghost use Rattle.columns.specs.Columns.{columnsOf};
-ghost use Rattle.tree.specs.Table.{statesOf};
+ghost use Rattle.columns.specs.Columns.{columns_of};
+ghost use Rattle.tree.specs.Table.{states_of};
 ghost use Rattle.step.specs.Step.{step_of};
 
 use fields::Limits;
@@ -32,7 +32,7 @@ pub fn step<'a>(
     sample: State,
 ) -> Stepped
     requires { (0 < n) × (n ≤ 512) }
-    ensures { result ≡ step_of limits segment (columnsOf kinds.now numbers.now keep_outs) max_distance (statesOf n az.now el.now feed.now) sample }
+    ensures { result ≡ step_of limits segment (columns_of kinds.now numbers.now keep_outs) max_distance (states_of n az.now el.now feed.now) sample }
 {
     let near = nearest::nearest(az, el, feed, n, sample);
     let k = near.index;

@@ -10,13 +10,13 @@ use lib.Ieee.{Float, nan}
 use Rattle.state.specs.declared.State.{State}
 use Rattle.tree.specs.declared.Tree.{Tree}
 use Rattle.state.specs.Rows.{row_at}
-use Rattle.tree.specs.Table.{rows_of, statesOf, stateAt, nodesIn, nodesOf, grownOf, rootOf, rootedOf, noNodes, noneOf}
+use Rattle.tree.specs.Table.{rows_of, states_of, state_at, nodes_in, nodes_of, grown_of, root_of, rooted_of, no_nodes, none_of}
 
 module _ (az el feed : List Float) where
-  rows-length : (k i : ℕ) → length (rows_of az el feed k i) ≡ k
+  rows_length : (k i : ℕ) → length (rows_of az el feed k i) ≡ k
   unfolding rows_of
-  rows-length zero i = refl
-  rows-length (suc k) i = ap suc (rows-length k (i + 1))
+  rows_length zero i = refl
+  rows_length (suc k) i = ap suc (rows_length k (i + 1))
 
   rows_at : (k i j : ℕ) → j < k → (d : State) → get_or (rows_of az el feed k i) j d ≡ row_at az el feed (i + j)
   unfolding rows_of
@@ -37,46 +37,46 @@ module _ (az el feed : List Float) where
       let e : i + 1 + k ≡ i + suc k = omega arith in
       ap (λ (l : List State). row_at az el feed i ∷ l) (rows_end k (i + 1) ∙ ap (λ (j : ℕ). rows_of az el feed k (i + 1) ++ (row_at az el feed j ∷ [])) e)
 
-  pub states-most : (n : ℕ) → length (statesOf n az el feed) ≡ min n 512
-  unfolding statesOf
-  states-most n = rows-length (min n 512) 0
+  pub states_most : (n : ℕ) → length (states_of n az el feed) ≡ min n 512
+  unfolding states_of
+  states_most n = rows_length (min n 512) 0
 
-  pub state-most : (n j : ℕ) → j < min n 512 → stateAt (statesOf n az el feed) j ≡ row_at az el feed j
-  unfolding statesOf
-  state-most n j h = let e : 0 + j ≡ j = omega arith in rows_at (min n 512) 0 j h _ ∙ ap (row_at az el feed) e
+  pub state_most : (n j : ℕ) → j < min n 512 → state_at (states_of n az el feed) j ≡ row_at az el feed j
+  unfolding states_of
+  state_most n j h = let e : 0 + j ≡ j = omega arith in rows_at (min n 512) 0 j h _ ∙ ap (row_at az el feed) e
 
-  pub states-length : (n : ℕ) → n ≤ 512 → length (statesOf n az el feed) ≡ n
-  states-length n h = states-most n ∙ omega arith
+  pub states_length : (n : ℕ) → n ≤ 512 → length (states_of n az el feed) ≡ n
+  states_length n h = states_most n ∙ omega arith
 
-  pub state-is : (n j : ℕ) → n ≤ 512 → j < n → stateAt (statesOf n az el feed) j ≡ row_at az el feed j
-  state-is n j h l = state-most n j (omega arith)
+  pub state_is : (n j : ℕ) → n ≤ 512 → j < n → state_at (states_of n az el feed) j ≡ row_at az el feed j
+  state_is n j h l = state_most n j (omega arith)
 
 -- writing past the rows changes none of them
 module _ (az el feed : List Float) (m : ℕ) (x y z : Float) where
   away : (i : ℕ) → i < m → i ≡ m → ⊥
   away i h e = omega arith
 
-  rows-kept : (k i : ℕ) → i + k ≤ m → rows_of (set az m x) (set el m y) (set feed m z) k i ≡ rows_of az el feed k i
+  rows_kept : (k i : ℕ) → i + k ≤ m → rows_of (set az m x) (set el m y) (set feed m z) k i ≡ rows_of az el feed k i
   unfolding rows_of
-  rows-kept zero i h = refl
-  rows-kept (suc k) i h =
+  rows_kept zero i h = refl
+  rows_kept (suc k) i h =
       let l : i + 1 + k ≤ m = omega arith in
       let a : get_or (set az m x) i nan ≡ get_or az i nan = get_or-set_other az m i x nan (away i (omega arith)) in
       let b : get_or (set el m y) i nan ≡ get_or el i nan = get_or-set_other el m i y nan (away i (omega arith)) in
       let c : get_or (set feed m z) i nan ≡ get_or feed i nan = get_or-set_other feed m i z nan (away i (omega arith)) in
-      rw (a, b, c) (ap (λ (r : List State). row_at az el feed i ∷ r) (rows-kept k (i + 1) l))
+      rw (a, b, c) (ap (λ (r : List State). row_at az el feed i ∷ r) (rows_kept k (i + 1) l))
 
-  pub states-more :
+  pub states_more :
       m < 512 → length az ≡ 512 → length el ≡ 512 → length feed ≡ 512 →
-      statesOf (m + 1) (set az m x) (set el m y) (set feed m z) ≡ statesOf m az el feed ++ (record { az = x; el = y; feed = z } ∷ [])
-  unfolding statesOf
-  states-more h p q r =
+      states_of (m + 1) (set az m x) (set el m y) (set feed m z) ≡ states_of m az el feed ++ (record { az = x; el = y; feed = z } ∷ [])
+  unfolding states_of
+  states_more h p q r =
       let e : min (m + 1) 512 ≡ suc (min m 512) = omega arith in
       let f : 0 + min m 512 ≡ m = omega arith in
       let a : get_or (set az m x) m nan ≡ x = get_or-set_same az m x nan (omega arith) in
       let b : get_or (set el m y) m nan ≡ y = get_or-set_same el m y nan (omega arith) in
       let c : get_or (set feed m z) m nan ≡ z = get_or-set_same feed m z nan (omega arith) in
-      rw (e, rows_end (set az m x) (set el m y) (set feed m z) (min m 512) 0, f, a, b, c, rows-kept (min m 512) 0 (omega arith))
+      rw (e, rows_end (set az m x) (set el m y) (set feed m z) (min m 512) 0, f, a, b, c, rows_kept (min m 512) 0 (omega arith))
 
 -- each column has 512 places
 abbrev pub Sized : Tree → Type 0
@@ -93,27 +93,27 @@ put_of t s parent =
       count = t.count + 1;
     }
 
-pub put-sized : (t : Tree) (s : State) (parent : ℕ) → Sized t → Sized (put_of t s parent)
-put-sized t s parent (p, q, r, w) = (simp length-set p, simp length-set q, simp length-set r, simp length-set w)
+pub put_sized : (t : Tree) (s : State) (parent : ℕ) → Sized t → Sized (put_of t s parent)
+put_sized t s parent (p, q, r, w) = (simp length-set p, simp length-set q, simp length-set r, simp length-set w)
 
-pub put-grows : (t : Tree) (s : State) (parent : ℕ) → t.count < 512 → Sized t → nodesOf (put_of t s parent) ≡ grownOf (nodesOf t) s parent
-unfolding nodesIn nodesOf grownOf
-put-grows t s parent h (p, q, r, w) =
+pub put_grows : (t : Tree) (s : State) (parent : ℕ) → t.count < 512 → Sized t → nodes_of (put_of t s parent) ≡ grown_of (nodes_of t) s parent
+unfolding nodes_in nodes_of grown_of
+put_grows t s parent h (p, q, r, w) =
     let k : t.count < length t.parent = omega arith in
-    let a = states-more t.az t.el t.feed t.count s.az s.el s.feed h p q r in
+    let a = states_more t.az t.el t.feed t.count s.az s.el s.feed h p q r in
     rw (a, add-one, take-suc-set)
 
 -- how many nodes there are
-pub nodes-length : (t : Tree) → t.count ≤ 512 → length (nodesOf t).states ≡ t.count
-unfolding nodesIn nodesOf
-nodes-length t h = states-length t.az t.el t.feed t.count h
+pub nodes_length : (t : Tree) → t.count ≤ 512 → length (nodes_of t).states ≡ t.count
+unfolding nodes_in nodes_of
+nodes_length t h = states_length t.az t.el t.feed t.count h
 
 -- a root alone
-pub rooted-is : (s : State) → nodesOf (rootedOf s) ≡ rootOf s
-unfolding nodesIn nodesOf rootedOf rootOf statesOf rows_of
-rooted-is s = refl
+pub rooted_is : (s : State) → nodes_of (rooted_of s) ≡ root_of s
+unfolding nodes_in nodes_of rooted_of root_of states_of rows_of
+rooted_is s = refl
 
 -- no node at all
-pub none_is : nodesOf noneOf ≡ noNodes
-unfolding nodesIn nodesOf noneOf statesOf rows_of
+pub none_is : nodes_of none_of ≡ no_nodes
+unfolding nodes_in nodes_of none_of states_of rows_of
 none_is = refl

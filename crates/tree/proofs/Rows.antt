@@ -5,7 +5,7 @@ use mathlib.Core.Path.{◌≡◌}
 use native.Mathlib.Omega.{arith}
 use lib.Ieee.{Float}
 use Rattle.state.specs.Rows.{row_at}
-use Rattle.tree.specs.Table.{rows_of, statesOf}
+use Rattle.tree.specs.Table.{rows_of, states_of}
 
 module _ (az el feed : List Float) (n : ℕ) where
   pub rows_more : (i : ℕ) → i < n → rows_of az el feed (n - i) i ≡ row_at az el feed i ∷ rows_of az el feed (n - (i + 1)) (i + 1)
@@ -21,8 +21,8 @@ module _ (az el feed : List Float) (n : ℕ) where
       rw k
 
   -- the code's smaller of n and 512
-  pub states-are : (count : ℕ) → count ≡ min n 512 → statesOf n az el feed ≡ rows_of az el feed (count - 0) 0
-  unfolding statesOf
-  states-are count e =
+  pub states_are : (count : ℕ) → count ≡ min n 512 → states_of n az el feed ≡ rows_of az el feed (count - 0) 0
+  unfolding states_of
+  states_are count e =
       let k : count - 0 ≡ count = omega arith in
       rw (k, e)

@@ -1,7 +1,7 @@
 // A tree of states in columns, read by index. The columns are lent to what only reads them; a planner appends in place, in the local that
 // holds the tree.
 ghost use Rattle.std.specs.Prelude.{◌≡◌};
-ghost use Rattle.tree.specs.Table.{nodesIn, nodeAtOf, rootedOf, noneOf};
+ghost use Rattle.tree.specs.Table.{nodes_in, node_at_of, rooted_of, none_of};
 
 use state::State;
 
@@ -31,7 +31,7 @@ impl Tree {
 
     // A tree of its root alone.
     pub fn rooted(s: State) -> Tree
-        ensures { result ≡ rootedOf s }
+        ensures { result ≡ rooted_of s }
     {
         Tree {
             az: [s.az; 512],
@@ -44,7 +44,7 @@ impl Tree {
 
     // A tree without a root.
     pub fn none() -> Tree
-        ensures { result ≡ noneOf }
+        ensures { result ≡ none_of }
     {
         Tree {
             az: [0.0; 512],
@@ -65,7 +65,7 @@ pub fn node_at<'a>(
     n: usize,
     i: usize,
 ) -> NodeAt
-    ensures { result ≡ nodeAtOf (nodesIn n az.now el.now feed.now parent.now) i }
+    ensures { result ≡ node_at_of (nodes_in n az.now el.now feed.now parent.now) i }
 {
     let count = if n < 512 { n } else { 512 };
     if i < count {

@@ -14,37 +14,37 @@ use Rattle.extend.specs.declared.Verdict.{Verdict}
 use Rattle.extend.specs.declared.Verdict.TheVariants as verdict
 use Rattle.turn.specs.declared.Ends.{Ends}
 use Rattle.turn.specs.declared.Ends.TheVariants as ends
-use Rattle.turn.specs.Turn.{connectEnds, Connects}
+use Rattle.turn.specs.Turn.{connect_ends_of, Connects}
 
 -- what each verdict leads to
 module _ (v : Verdict) (reached : Bool) where
-  pub ends-refused : v ≡ verdict.Refused → ends.GoesOn ≡ connectEnds v reached
-  unfolding connectEnds
-  ends-refused e = rw e
+  pub ends_refused : v ≡ verdict.Refused → ends.GoesOn ≡ connect_ends_of v reached
+  unfolding connect_ends_of
+  ends_refused e = rw e
 
-  pub ends-full : v ≡ verdict.Full → ends.Full ≡ connectEnds v reached
-  unfolding connectEnds
-  ends-full e = rw e
+  pub ends_full : v ≡ verdict.Full → ends.Full ≡ connect_ends_of v reached
+  unfolding connect_ends_of
+  ends_full e = rw e
 
-  pub ends-joined : v ≡ verdict.Added → reached ≡ true → ends.Joined ≡ connectEnds v reached
-  unfolding connectEnds
-  ends-joined e r = rw (e, r)
+  pub ends_joined : v ≡ verdict.Added → reached ≡ true → ends.Joined ≡ connect_ends_of v reached
+  unfolding connect_ends_of
+  ends_joined e r = rw (e, r)
 
-  pub ends-short : v ≡ verdict.Added → reached ≡ false → ends.GoesOn ≡ connectEnds v reached
-  unfolding connectEnds
-  ends-short e r = rw (e, r)
+  pub ends_short : v ≡ verdict.Added → reached ≡ false → ends.GoesOn ≡ connect_ends_of v reached
+  unfolding connect_ends_of
+  ends_short e r = rw (e, r)
 
 pub connects :
     (limits : Limits) (segment : Float) (ks : List KeepOut) (max : Float) (other : Nodes) (s : State) (growing : ℕ) (f : Extended) (az el feed : List Float) (parent : List ℕ) →
-    Extends limits segment ks max other s f az el feed parent → (v : Ends) → v ≡ connectEnds f.verdict f.reached →
+    Extends limits segment ks max other s f az el feed parent → (v : Ends) → v ≡ connect_ends_of f.verdict f.reached →
     Connects limits segment ks max other s growing (record { ends = v; growing = growing; other = f.count }) az el feed parent
 connects limits segment ks max other s growing f az el feed parent w v e =
     record {
       grown = w.grown;
       is = w.is;
       tree = w.tree;
-      ends = e ∙ ap (λ x. connectEnds x f.reached) w.verdict ∙ ap (connectEnds w.grown.verdict) w.reached;
-      growing-kept = refl;
+      ends = e ∙ ap (λ x. connect_ends_of x f.reached) w.verdict ∙ ap (connect_ends_of w.grown.verdict) w.reached;
+      growing_kept = refl;
       some = w.some;
       room = w.room;
       sized = w.sized;

@@ -1,6 +1,6 @@
 -- RRT-Connect's two trees.
 use Rattle.std.specs.Prelude.{ℕ, length}
-use Rattle.tree.specs.Table.{Nodes, nodesIn}
+use Rattle.tree.specs.Table.{Nodes, nodes_in}
 use Rattle.turn.specs.Turn.{Columns}
 
 pub record Trees : Type 0 where
@@ -12,6 +12,6 @@ abbrev pub size_of : Nodes → ℕ
 size_of nodes = length nodes.states
 
 -- the trees that two sets of columns hold
-unfoldable pub treesAt : ℕ → Columns → ℕ → Columns → Trees
-treesAt n c m d =
-    record { start = nodesIn n c.az c.el c.feed c.parent; goal = nodesIn m d.az d.el d.feed d.parent }
+unfoldable pub trees_at : ℕ → Columns → ℕ → Columns → Trees
+trees_at n c m d =
+    record { start = nodes_in n c.az c.el c.feed c.parent; goal = nodes_in m d.az d.el d.feed d.parent }

@@ -1,9 +1,9 @@
 // One sample (document 01, "RRT-Connect"): a step of the growing tree, and one of the other toward its new node.
 ghost use Rattle.std.specs.Prelude.{◌≡◌, ◌≤◌, ◌<◌};
-ghost use Rattle.columns.specs.Columns.{columnsOf};
-ghost use Rattle.tree.specs.Table.{nodesIn};
+ghost use Rattle.columns.specs.Columns.{columns_of};
+ghost use Rattle.tree.specs.Table.{nodes_in};
 ghost use Rattle.extend.specs.Extend.{Sized};
-ghost use Rattle.turn.specs.Turn.{connectEnds, Connects, planWith, columnsAt, Turns};
+ghost use Rattle.turn.specs.Turn.{connect_ends_of, Connects, plan_with, columns_at, Turns};
 
 use extend::Verdict;
 use fields::{Goal, Limits};
@@ -31,7 +31,7 @@ pub struct Turned {
 
 // What the other tree's step leads to.
 fn connect_ends(verdict: Verdict, reached: bool) -> Ends
-    ensures { result ≡ connectEnds verdict reached }
+    ensures { result ≡ connect_ends_of verdict reached }
 {
     match verdict {
         Verdict::Refused => Ends::GoesOn,
@@ -62,7 +62,7 @@ fn connected<'a>(
     s: State,
 ) -> Turned
     requires { (0 < m) × (m ≤ 512) × Sized az.old el.old feed.old parent.old }
-    ensures { Connects limits segment (columnsOf kinds.now numbers.now keep_outs) max_distance (nodesIn m az.old el.old feed.old parent.old) s growing result az.new el.new feed.new parent.new }
+    ensures { Connects limits segment (columns_of kinds.now numbers.now keep_outs) max_distance (nodes_in m az.old el.old feed.old parent.old) s growing result az.new el.new feed.new parent.new }
 {
     let f = extend::extend(
         az,
@@ -111,7 +111,7 @@ pub fn turn<'a>(
 ) -> Turned
     requires n_nonzero { (0 < n) × (n ≤ 512) × Sized az.old el.old feed.old parent.old }
     requires m_nonzero { (0 < m) × (m ≤ 512) × Sized other_az.old other_el.old other_feed.old other_parent.old }
-    ensures { Turns (planWith limits segment (columnsOf kinds.now numbers.now keep_outs) max_distance goal) from_start (nodesIn n az.old el.old feed.old parent.old) (nodesIn m other_az.old other_el.old other_feed.old other_parent.old) sample result (columnsAt az.new el.new feed.new parent.new) (columnsAt other_az.new other_el.new other_feed.new other_parent.new) }
+    ensures { Turns (plan_with limits segment (columns_of kinds.now numbers.now keep_outs) max_distance goal) from_start (nodes_in n az.old el.old feed.old parent.old) (nodes_in m other_az.old other_el.old other_feed.old other_parent.old) sample result (columns_at az.new el.new feed.new parent.new) (columns_at other_az.new other_el.new other_feed.new other_parent.new) }
 {
     let e = extend::extend(
         az,

@@ -5,8 +5,8 @@
 use Rattle.std.specs.Prelude.{ℕ, ◌+◌, ◌*◌, Bool, cond, List, [], ◌∷◌, leb, eqb, length, drop, get_or}
 use Rattle.std.specs.Float.{binary64}
 use Rattle.std.specs.Float.Ieee.{of_bits}
-use Rattle.numeral.specs.Decimal.{decimalOf}
-use Rattle.numeral.specs.Hex.{hexOf}
+use Rattle.numeral.specs.Decimal.{decimal_of}
+use Rattle.numeral.specs.Hex.{hex_of}
 use Rattle.numeral.specs.declared.HexDigit.{HexDigit}
 use Rattle.numeral.specs.declared.HexDigit.TheVariants.{Value, Other}
 use Rattle.numeral.specs.declared.NumeralMade.{NumeralMade}
@@ -17,12 +17,12 @@ use Rattle.words.specs.declared.number.Whole.TheVariants as whole
 
 -- ---- decimal numerals
 -- a value of so many digits, so many of them behind the point: at most 15 digits in all
-unfoldable pub limitedOf : Bool → ℕ → ℕ → ℕ → NumeralMade
-limitedOf negative value digits places = cond (leb digits 15) (decimalOf negative value places) Bad
+unfoldable pub limited_of : Bool → ℕ → ℕ → ℕ → NumeralMade
+limited_of negative value digits places = cond (leb digits 15) (decimal_of negative value places) Bad
 
 -- the numeral of the digits before the point and of those behind it
 unfoldable pub made_of : Bool → List ℕ → List ℕ → NumeralMade
-made_of negative ds fs = limitedOf negative (read_on (read_on 0 ds) fs) (length ds + length fs) (length fs)
+made_of negative ds fs = limited_of negative (read_on (read_on 0 ds) fs) (length ds + length fs) (length fs)
 
 -- behind the point: digits, and nothing after them
 unfoldable pub part_of : Bool → List ℕ → List ℕ → List ℕ → NumeralMade
@@ -36,38 +36,38 @@ plain_of negative [] rest = Bad
 plain_of negative (d ∷ ds) [] = made_of negative (d ∷ ds) []
 plain_of negative (d ∷ ds) (b ∷ bs) = cond (eqb b 46) (part_of negative (d ∷ ds) (lead bs) (after bs)) Bad
 
-unfoldable pub isNegative : List ℕ → Bool
-isNegative word = eqb (get_or word 0 0) 45
+unfoldable pub is_negative : List ℕ → Bool
+is_negative word = eqb (get_or word 0 0) 45
 
-unfoldable pub signLength : List ℕ → ℕ
-signLength word = cond (isNegative word) 1 0
+unfoldable pub sign_length_of : List ℕ → ℕ
+sign_length_of word = cond (is_negative word) 1 0
 
-unfoldable pub decimalWord : List ℕ → NumeralMade
-decimalWord word = let digits = drop (signLength word) word in plain_of (isNegative word) (lead digits) (after digits)
+unfoldable pub decimal_word : List ℕ → NumeralMade
+decimal_word word = let digits = drop (sign_length_of word) word in plain_of (is_negative word) (lead digits) (after digits)
 
 -- ---- bits
 -- hexadecimal digits behind a value, the first of them read already
-unfoldable pub bitsOn : ℕ → HexDigit → (ℕ → NumeralMade) → NumeralMade
-bitsOn value (Value d) later = later (value * 16 + d)
-bitsOn value Other later = Bad
+unfoldable pub bits_on : ℕ → HexDigit → (ℕ → NumeralMade) → NumeralMade
+bits_on value (Value d) later = later (value * 16 + d)
+bits_on value Other later = Bad
 
 -- the binary64 whose bits are a value with hexadecimal digits behind it
-unfoldable pub bitsFrom : ℕ → List ℕ → NumeralMade
-bitsFrom value [] = Good (of_bits binary64 value)
-bitsFrom value (b ∷ bs) = bitsOn value (hexOf b) (λ v. bitsFrom v bs)
+unfoldable pub bits_from : ℕ → List ℕ → NumeralMade
+bits_from value [] = Good (of_bits binary64 value)
+bits_from value (b ∷ bs) = bits_on value (hex_of b) (λ v. bits_from v bs)
 
-unfoldable pub hexWord : List ℕ → NumeralMade
-hexWord digits = cond (eqb (length digits) 16) (bitsFrom 0 digits) Bad
+unfoldable pub hex_word : List ℕ → NumeralMade
+hex_word digits = cond (eqb (length digits) 16) (bits_from 0 digits) Bad
 
 -- ---- numbers
 unfoldable pub number_of : List ℕ → NumeralMade
-number_of word = cond (eqb (get_or word 0 0) 120) (hexWord (drop 1 word)) (decimalWord word)
+number_of word = cond (eqb (get_or word 0 0) 120) (hex_word (drop 1 word)) (decimal_word word)
 
 -- a whole number: digits alone, at most 15
-unfoldable pub wholeIn : List ℕ → List ℕ → Whole
-wholeIn [] rest = whole.Other
-wholeIn (d ∷ ds) [] = cond (leb (length (d ∷ ds)) 15) (whole.Value (read_on 0 (d ∷ ds))) whole.Other
-wholeIn (d ∷ ds) (b ∷ bs) = whole.Other
+unfoldable pub whole_in : List ℕ → List ℕ → Whole
+whole_in [] rest = whole.Other
+whole_in (d ∷ ds) [] = cond (leb (length (d ∷ ds)) 15) (whole.Value (read_on 0 (d ∷ ds))) whole.Other
+whole_in (d ∷ ds) (b ∷ bs) = whole.Other
 
 unfoldable pub whole_of : List ℕ → Whole
-whole_of word = wholeIn (lead word) (after word)
+whole_of word = whole_in (lead word) (after word)

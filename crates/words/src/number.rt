@@ -1,7 +1,7 @@
 // A word as a number: a decimal numeral of at most 15 digits, or `x` and the 16 hexadecimal digits of its bits.
 ghost use Rattle.std.specs.Prelude.{◌≡◌, ◌≤◌, length, drop};
 ghost use Rattle.words.specs.Runs.{Reads};
-ghost use Rattle.words.specs.Number.{limitedOf, signLength, decimalWord, hexWord, number_of, whole_of};
+ghost use Rattle.words.specs.Number.{limited_of, sign_length_of, decimal_word, hex_word, number_of, whole_of};
 
 use numeral::{HexDigit, NumeralMade};
 
@@ -50,7 +50,7 @@ fn digits(word: &[u8], from: usize, before: u64) -> Run
 }
 
 fn sign_length(word: &[u8]) -> usize
-    ensures { result ≡ signLength word.now }
+    ensures { result ≡ sign_length_of word.now }
 {
     if 0 < word.len() {
         if word[0] == b'-' {
@@ -62,7 +62,7 @@ fn sign_length(word: &[u8]) -> usize
 
 // The sign, digits, and a point with digits behind it.
 fn decimal(word: &[u8]) -> NumeralMade
-    ensures { result ≡ decimalWord word.now }
+    ensures { result ≡ decimal_word word.now }
 {
     let from = sign_length(word);
     let whole = digits(word, from, 0);
@@ -87,7 +87,7 @@ fn decimal(word: &[u8]) -> NumeralMade
 
 // The numeral's value, unless it has too many digits in all.
 fn short(negative: bool, value: u64, digits: usize, places: usize) -> NumeralMade
-    ensures { result ≡ limitedOf negative value digits places }
+    ensures { result ≡ limited_of negative value digits places }
 {
     if MOST_DIGITS < digits {
         return NumeralMade::Bad;
@@ -97,7 +97,7 @@ fn short(negative: bool, value: u64, digits: usize, places: usize) -> NumeralMad
 
 // `x` and exactly 16 digits, most significant first.
 fn bits(word: &[u8]) -> NumeralMade
-    ensures { result ≡ hexWord (drop 1 word.now) }
+    ensures { result ≡ hex_word (drop 1 word.now) }
 {
     if word.len() != LONGEST {
         return NumeralMade::Bad;

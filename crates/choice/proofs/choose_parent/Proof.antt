@@ -4,14 +4,14 @@ use mathlib.Core.Logic.{⊎_elim}
 use native.Mathlib.Omega.{arith}
 use borrow.Author.Rules.{rules}
 use lib.ListN.{length, get_or}
-use Rattle.columns.specs.Columns.{columnsOf}
-use Rattle.choice.proofs.Chooses.{Choosing, chooses-first, chooses-one, chooses-barred, chooses-dear, chooses-last}
+use Rattle.columns.specs.Columns.{columns_of}
+use Rattle.choice.proofs.Chooses.{Choosing, chooses_first, chooses_one, chooses_barred, chooses_dear, chooses_last}
 use Rattle.choice.proofs.choose_parent.Statement.{statement}
 use Rattle.choice.proofs.choose_parent.Tie as tie
 
 abbrev invariant-neighbours : tie.invariant-neighbours
 invariant-neighbours az el feed cost n found many limits segment kinds numbers keep-outs new nearest parent₀ least₀ k₀ parent least k =
-    Choosing limits segment (columnsOf kinds numbers keep-outs) az el feed cost n new nearest many found k parent least
+    Choosing limits segment (columns_of kinds numbers keep-outs) az el feed cost n new nearest many found k parent least
 
 abbrev decreases-neighbours : tie.decreases-neighbours
 decreases-neighbours az el feed cost n found many limits segment kinds numbers keep-outs new nearest parent₀ least₀ k₀ parent least k = many - k
@@ -57,7 +57,7 @@ distance-requires c κs = search rules
 neighbours-holds : tie.Need-neighbours-init invariant-neighbours decreases-neighbours
 neighbours-holds c =
     let s = c.before.before.before.before.before in
-    chooses-first _ _ _ _ _ _ _ _ _ _ _ _ s.requires.0 s.requires.1 c.distance.ensures
+    chooses_first _ _ _ _ _ _ _ _ _ _ _ _ s.requires.0 s.requires.1 c.distance.ensures
 
 mul-i : tie.Need-overflow-mul-i invariant-neighbours decreases-neighbours
 mul-i c = omega arith
@@ -109,12 +109,12 @@ neighbours-again c =
     let more = (turn seen).neighbours-test.true in
     let long : s.args.many ≤ length s.args.found.now = omega (arith, s.pre.0, s.pre.2, s.pre.4) in
     let far = c.before.distance2.ensures in
-    ⊎_elim (λ w. chooses-one h s.pre.0 more long (node seen) far w.1.ensures w.0.taken w.2.taken w.3 w.4)
-    (⊎_elim (λ w. chooses-barred h s.pre.0 more long (node seen) far w.1.ensures w.0.taken w.2.left w.3 w.4)
-    (λ w. chooses-dear h s.pre.0 more long (node seen) far w.0.left w.1 w.2)) c.if1.branch
+    ⊎_elim (λ w. chooses_one h s.pre.0 more long (node seen) far w.1.ensures w.0.taken w.2.taken w.3 w.4)
+    (⊎_elim (λ w. chooses_barred h s.pre.0 more long (node seen) far w.1.ensures w.0.taken w.2.left w.3 w.4)
+    (λ w. chooses_dear h s.pre.0 more long (node seen) far w.0.left w.1 w.2)) c.if1.branch
 
 returns : tie.Need-returns invariant-neighbours decreases-neighbours
-returns c = chooses-last c.before.neighbours.invariant c.neighbours-test.false
+returns c = chooses_last c.before.neighbours.invariant c.neighbours-test.false
 
 pub choose-parent-spec : {M : Type 1} → statement M
 choose-parent-spec =

@@ -1,6 +1,6 @@
 -- `columns::keep_out_at` meets its contract.
-use Rattle.columns.proofs.Rows.{a-box, a-disc, a-floor}
-use Rattle.columns.specs.Rows.{keepOutAt}
+use Rattle.columns.proofs.Rows.{a_box, a_disc, a_floor}
+use Rattle.columns.specs.Rows.{keep_out_at_of}
 use borrow.Author.Rules.{rules}
 use Rattle.columns.proofs.keep_out_at.Statement.{statement}
 use Rattle.columns.proofs.keep_out_at.Tie as tie
@@ -93,16 +93,16 @@ element-copy-out-t58 : tie.Need-element-copy-out-t58
 element-copy-out-t58 c = search rules
 
 returns : tie.Need-returns
-unfolding keepOutAt
-returns c = a-box _ c.before.before.before.before.before.before.match.keys1
+unfolding keep_out_at_of
+returns c = a_box _ c.before.before.before.before.before.before.match.keys1
 
 returns-2 : tie.Need-returns-2
-unfolding keepOutAt
-returns-2 c = a-disc _ c.before.before.before.match.keys2
+unfolding keep_out_at_of
+returns-2 c = a_disc _ c.before.before.before.match.keys2
 
 returns-3 : tie.Need-returns-3
-unfolding keepOutAt
-returns-3 c = a-floor _ c.before.match.rest.0.1 c.before.match.rest.1
+unfolding keep_out_at_of
+returns-3 c = a_floor _ c.before.match.rest.0.1 c.before.match.rest.1
 
 pub keep-out-at-spec : {M : Type 1} → statement M
 keep-out-at-spec =

@@ -4,7 +4,7 @@ use borrow.Author.Rules.{rules}
 use Rattle.plan.specs.Setup.{Told}
 use Rattle.plan.specs.Plan.{Plan}
 use Rattle.turn.specs.Trees.{Trees}
-use Rattle.connect_calls.specs.Left.{setupFrom}
+use Rattle.connect_calls.specs.Left.{setup_from}
 use Rattle.connect_calls.proofs.setup.Statement.{statement}
 use Rattle.connect_calls.proofs.setup.Tie as tie
 
@@ -21,7 +21,7 @@ same_length : tie.Need-same-length
 same_length c = search rules
 
 returns : tie.Need-returns
-unfolding setupFrom
+unfolding setup_from
 returns c =
     let made = c.before.before.before.before.before in
     let fields = made.before in

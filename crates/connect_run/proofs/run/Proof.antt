@@ -8,30 +8,30 @@ use lib.ListN.{length, drop}
 use Rattle.laws.specs.Rest.{mapped}
 use Rattle.answer.specs.declared.Answer.TheVariants.{SamplesEnded}
 use Rattle.keep_out.specs.declared.KeepOut.{KeepOut}
-use Rattle.columns.specs.Columns.{columnsOf}
-use Rattle.samples.specs.Samples.{samplesOf}
+use Rattle.columns.specs.Columns.{columns_of}
+use Rattle.samples.specs.Samples.{samples_of}
 use Rattle.samples.proofs.Threes.{fewer}
-use Rattle.tree.specs.Table.{nodesOf}
+use Rattle.tree.specs.Table.{nodes_of}
 use Rattle.tree.specs.declared.Tree.{Tree}
 use Rattle.route.specs.Written.{written_of}
 use Rattle.route.proofs.Stores.{nothing_written}
 use Rattle.extend.specs.Extend.{Sized}
-use Rattle.plan.specs.Plan.{Plan, planFrom}
+use Rattle.plan.specs.Plan.{Plan, plan_from}
 use Rattle.plan.specs.Solve.{Ended}
-use Rattle.turn.specs.Turn.{planWith, Columns, columnsAt}
-use Rattle.turn.specs.Trees.{Trees, treesAt}
-use Rattle.ending.specs.Ending.{answer_of, endPath}
+use Rattle.turn.specs.Turn.{plan_with, Columns, columns_at}
+use Rattle.turn.specs.Trees.{Trees, trees_at}
+use Rattle.ending.specs.Ending.{answer_of, end_path}
 use Rattle.connect_run.specs.Run.{run_of}
-use Rattle.connect_run.proofs.Runs.{turn_on, turn-ends}
+use Rattle.connect_run.proofs.Runs.{turn_on, turn_ends}
 use Rattle.connect_run.proofs.run.Statement.{statement}
 use Rattle.connect_run.proofs.run.Tie as tie
 
 abbrev invariant-samples : tie.invariant-samples
 invariant-samples max target samples route₀ limits segment columns rows az₀ el₀ feed₀ parent₀ n₀ goal-az₀ goal-el₀ goal-feed₀ goal-parent₀ m₀ at₀ taken₀ route az el feed parent n goal-az goal-el goal-feed goal-parent m at taken =
     (at ≤ length samples) × (taken ≤ at) × ((0 < n) × (n ≤ 512) × Sized az el feed parent) × ((m ≤ 512) × Sized goal-az goal-el goal-feed goal-parent) × (route ≡ route₀)
-    × (let p = planWith limits segment (columnsOf columns.kinds columns.numbers rows) max.value target in
-    run_of p (treesAt n₀ (columnsAt az₀ el₀ feed₀ parent₀) m₀ (columnsAt goal-az₀ goal-el₀ goal-feed₀ goal-parent₀)) 0 (samplesOf samples)
-    ≡ run_of p (treesAt n (columnsAt az el feed parent) m (columnsAt goal-az goal-el goal-feed goal-parent)) taken (samplesOf (drop at samples)))
+    × (let p = plan_with limits segment (columns_of columns.kinds columns.numbers rows) max.value target in
+    run_of p (trees_at n₀ (columns_at az₀ el₀ feed₀ parent₀) m₀ (columns_at goal-az₀ goal-el₀ goal-feed₀ goal-parent₀)) 0 (samples_of samples)
+    ≡ run_of p (trees_at n (columns_at az el feed parent) m (columns_at goal-az goal-el goal-feed goal-parent)) taken (samples_of (drop at samples)))
 
 abbrev decreases-samples : tie.decreases-samples
 decreases-samples max target samples route₀ limits segment columns rows az₀ el₀ feed₀ parent₀ n₀ goal-az₀ goal-el₀ goal-feed₀ goal-parent₀ m₀ at₀ taken₀ route az el feed parent n goal-az goal-el goal-feed goal-parent m at taken =
@@ -52,29 +52,29 @@ module _ (c : tie.After-of invariant-samples decreases-samples) where
   abbrev begun : tie.Start invariant-samples decreases-samples
   begun = c.before.before.before.before
 
-  abbrev withColumns : List KeepOut → Plan
-  withColumns ks = planWith begun.args.mount.limits begun.args.mount.segment.value ks begun.args.max.value begun.args.target
+  abbrev with_columns : List KeepOut → Plan
+  with_columns ks = plan_with begun.args.mount.limits begun.args.mount.segment.value ks begun.args.max.value begun.args.target
 
   abbrev plan : Plan
-  plan = withColumns (columnsOf c.of.result.kinds c.of.result.numbers c.of.result.count)
+  plan = with_columns (columns_of c.of.result.kinds c.of.result.numbers c.of.result.count)
 
   abbrev first : Trees
-  first = record { start = nodesOf begun.args.start; goal = nodesOf begun.args.goal }
+  first = record { start = nodes_of begun.args.start; goal = nodes_of begun.args.goal }
 
-  abbrev columnsFor : Tree → Columns
-  columnsFor t = columnsAt t.az t.el t.feed t.parent
+  abbrev columns_for : Tree → Columns
+  columns_for t = columns_at t.az t.el t.feed t.parent
 
-  first-is : treesAt begun.args.start.count (columnsFor begun.args.start) begun.args.goal.count (columnsFor begun.args.goal) ≡ first
-  unfolding treesAt nodesOf
+  first-is : trees_at begun.args.start.count (columns_for begun.args.start) begun.args.goal.count (columns_for begun.args.goal) ≡ first
+  unfolding trees_at nodes_of
   first-is = refl
 
   same-run :
       (e : Ended Trees) →
-      run_of plan (treesAt begun.args.start.count (columnsFor begun.args.start) begun.args.goal.count (columnsFor begun.args.goal)) 0 (samplesOf begun.args.samples.now) ≡ e →
-      e ≡ run_of (planFrom begun.args.mount begun.args.max begun.args.target) first 0 (samplesOf begun.args.samples.now)
+      run_of plan (trees_at begun.args.start.count (columns_for begun.args.start) begun.args.goal.count (columns_for begun.args.goal)) 0 (samples_of begun.args.samples.now) ≡ e →
+      e ≡ run_of (plan_from begun.args.mount begun.args.max begun.args.target) first 0 (samples_of begun.args.samples.now)
   same-run e is =
-      sym is ∙ ap (λ (t : Trees). run_of plan t 0 (samplesOf begun.args.samples.now)) first-is
-      ∙ ap (λ (ks : List KeepOut). run_of (withColumns ks) first 0 (samplesOf begun.args.samples.now)) c.of.ensures.is
+      sym is ∙ ap (λ (t : Trees). run_of plan t 0 (samples_of begun.args.samples.now)) first-is
+      ∙ ap (λ (ks : List KeepOut). run_of (with_columns ks) first 0 (samples_of begun.args.samples.now)) c.of.ensures.is
 
 -- what is known after a round
 module _ (c : tie.After-round invariant-samples decreases-samples) where
@@ -94,22 +94,22 @@ module _ (c : tie.After-round invariant-samples decreases-samples) where
   here = omega (arith, turn.samples-test.taken)
 
   -- both trees after the round
-  abbrev startColumns : Columns
-  startColumns = columnsAt c.round.new.0 c.round.new.1.0 c.round.new.1.1.0 c.round.new.1.1.1.0
+  abbrev start_columns : Columns
+  start_columns = columns_at c.round.new.0 c.round.new.1.0 c.round.new.1.1.0 c.round.new.1.1.1.0
 
-  abbrev goalColumns : Columns
-  goalColumns =
-      columnsAt c.round.new.1.1.1.1.1.0 c.round.new.1.1.1.1.1.1.0 c.round.new.1.1.1.1.1.1.1.0 c.round.new.1.1.1.1.1.1.1.1.0
+  abbrev goal_columns : Columns
+  goal_columns =
+      columns_at c.round.new.1.1.1.1.1.0 c.round.new.1.1.1.1.1.1.0 c.round.new.1.1.1.1.1.1.1.0 c.round.new.1.1.1.1.1.1.1.1.0
 
   abbrev after : Trees
-  after = treesAt c.round.result.start startColumns c.round.result.goal goalColumns
+  after = trees_at c.round.result.start start_columns c.round.result.goal goal_columns
 
-  abbrev endedHere : Ended Trees
-  endedHere =
+  abbrev ended_here : Ended Trees
+  ended_here =
       record {
         tables = after;
         answer = answer_of c.round.result.ends;
-        path = endPath c.round.result.ends after;
+        path = end_path c.round.result.ends after;
         taken = head.samples.taken + 1;
       }
 
@@ -183,7 +183,7 @@ samples-again c =
       (w.start.some, w.start.room, w.start.sized),
       (w.goal.room, w.goal.sized),
       h.4,
-      turn_on (plan (of round)) _ _ _ _ _ _ _ _ (here round) h.5 round.round.result (startColumns round) (goalColumns round) w _ c.before.goes_on.ensures c.if1.true,
+      turn_on (plan (of round)) _ _ _ _ _ _ _ _ (here round) h.5 round.round.result (start_columns round) (goal_columns round) w _ c.before.goes_on.ensures c.if1.true,
     )
 
 write-requires : tie.Need-write-requires invariant-samples decreases-samples
@@ -203,7 +203,7 @@ same_length c =
     wrote.write.auto.1.1.1.1.1.1.1.1.1.1.1.0 ∙ ap length (head round).samples.invariant.4
 
 returns : tie.Need-returns invariant-samples decreases-samples
-unfolding treesAt nodesOf
+unfolding trees_at nodes_of
 returns c =
     let wrote = c.before.before.before in
     let tested = wrote.before.before.before.before.before.before.before.before.before.before.before in
@@ -211,16 +211,16 @@ returns c =
     let w = round.round.ensures in
     let h = (head round).samples.invariant in
     record {
-      ended = endedHere round;
+      ended = ended_here round;
       is =
-          same-run (of round) (endedHere round)
-          (turn-ends (plan (of round)) _ _ _ _ _ _ _ _ (here round) h.5 round.round.result (startColumns round) (goalColumns round) w _ tested.goes_on.ensures wrote.before.before.before.before.before.before.before.before.before.before.if1.false);
-      start-tree = refl;
-      goal-tree = refl;
+          same-run (of round) (ended_here round)
+          (turn_ends (plan (of round)) _ _ _ _ _ _ _ _ (here round) h.5 round.round.result (start_columns round) (goal_columns round) w _ tested.goes_on.ensures wrote.before.before.before.before.before.before.before.before.before.before.if1.false);
+      start_tree_is = refl;
+      goal_tree_is = refl;
       answer = c.answer-of.ensures;
       count = wrote.write.ensures.count;
       taken = refl;
-      memory = wrote.write.ensures.memory ∙ ap (written_of (endedHere round).path) h.4;
+      memory = wrote.write.ensures.memory ∙ ap (written_of (ended_here round).path) h.4;
       some = w.start.some;
       room = (w.start.room, w.goal.room);
     }
@@ -229,18 +229,18 @@ same-length-2 : tie.Need-same-length-2 invariant-samples decreases-samples
 same-length-2 c = ap length c.before.samples.invariant.4
 
 returns-2 : tie.Need-returns-2 invariant-samples decreases-samples
-unfolding run_of treesAt nodesOf
+unfolding run_of trees_at nodes_of
 returns-2 c =
     let h = c.before.samples in
     let from = c.before.before.before.before.before.before.before.before.before.before in
-    let d = columnsAt h.az h.el h.feed h.parent in
-    let g = columnsAt h.goal-az h.goal-el h.goal-feed h.goal-parent in
-    let e : Ended Trees = record { tables = treesAt h.n d h.m g; answer = SamplesEnded; path = []; taken = h.taken } in
+    let d = columns_at h.az h.el h.feed h.parent in
+    let g = columns_at h.goal-az h.goal-el h.goal-feed h.goal-parent in
+    let e : Ended Trees = record { tables = trees_at h.n d h.m g; answer = SamplesEnded; path = []; taken = h.taken } in
     record {
       ended = e;
-      is = same-run from e (h.invariant.5 ∙ ap (run_of (plan from) (treesAt h.n d h.m g) h.taken) (fewer _ _ (omega arith) h.invariant.0));
-      start-tree = refl;
-      goal-tree = refl;
+      is = same-run from e (h.invariant.5 ∙ ap (run_of (plan from) (trees_at h.n d h.m g) h.taken) (fewer _ _ (omega arith) h.invariant.0));
+      start_tree_is = refl;
+      goal_tree_is = refl;
       answer = refl;
       count = refl;
       taken = refl;

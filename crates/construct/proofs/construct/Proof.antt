@@ -8,20 +8,20 @@ use borrow.Author.Rules.{rules}
 use lib.ListN.{length}
 use Rattle.answer.specs.declared.Answer.TheVariants.{Done, Full}
 use Rattle.keep_out.specs.declared.KeepOut.{KeepOut}
-use Rattle.keep_out_table.specs.Table.{keepOutsOf}
-use Rattle.columns.specs.Columns.{columnsOf}
-use Rattle.samples.specs.Samples.{samplesOf}
+use Rattle.keep_out_table.specs.Table.{keep_outs_of}
+use Rattle.columns.specs.Columns.{columns_of}
+use Rattle.samples.specs.Samples.{samples_of}
 use Rattle.roadmap.specs.Map.{Milestone}
-use Rattle.construct.specs.Construct.{Constructed, run_of, constructOf}
-use Rattle.roadmap.specs.View.{span_of, view_of, milestonesOf}
+use Rattle.construct.specs.Construct.{Constructed, run_of, construct_of}
+use Rattle.roadmap.specs.View.{span_of, view_of, milestones_of}
 use Rattle.roadmap.proofs.View.{clean}
-use Rattle.construct.proofs.Runs.{Building, construct-none, construct-some, build-passed, build-full, build-added, build_ends}
+use Rattle.construct.proofs.Runs.{Building, construct_none, construct_some, build_passed, build_full, build_added, build_ends}
 use Rattle.construct.proofs.construct.Statement.{statement}
 use Rattle.construct.proofs.construct.Tie as tie
 
 abbrev invariant-samples : tie.invariant-samples
 invariant-samples radius samples held limits segment columns rows az₀ el₀ feed₀ legs₀ count₀ at₀ taken₀ az el feed legs count at taken =
-    Building limits segment (columnsOf columns.kinds columns.numbers rows) radius samples az el feed legs count at taken
+    Building limits segment (columns_of columns.kinds columns.numbers rows) radius samples az el feed legs count at taken
 
 abbrev decreases-samples : tie.decreases-samples
 decreases-samples radius samples held limits segment columns rows az₀ el₀ feed₀ legs₀ count₀ at₀ taken₀ az el feed legs count at taken = length samples - at
@@ -32,16 +32,16 @@ module _ (c : tie.After-of invariant-samples decreases-samples) where
   start = c.before.before.before.before
 
   abbrev run : List KeepOut → Constructed
-  run ks = run_of start.args.mount.limits start.args.mount.segment.value ks start.args.radius [] 0 (samplesOf start.args.samples.now)
+  run ks = run_of start.args.mount.limits start.args.mount.segment.value ks start.args.radius [] 0 (samples_of start.args.samples.now)
 
   answered :
-      (e : Constructed) → run (columnsOf c.of.result.kinds c.of.result.numbers c.of.result.count) ≡ e →
+      (e : Constructed) → run (columns_of c.of.result.kinds c.of.result.numbers c.of.result.count) ≡ e →
       (let a = start.args in
-      e ≡ constructOf a.mount.limits a.mount.segment.value (keepOutsOf a.mount.table) a.radius (milestonesOf a.map) (samplesOf a.samples.now))
-  unfolding milestonesOf
+      e ≡ construct_of a.mount.limits a.mount.segment.value (keep_outs_of a.mount.table) a.radius (milestones_of a.map) (samples_of a.samples.now))
+  unfolding milestones_of
   answered e is =
       let none : min start.args.map.count 256 ≡ 0 = omega (arith, c.before.before.if1.false) in
-      sym is ∙ ap run c.of.ensures.is ∙ sym (construct-none _ _ _ _ _ _ _ _ _ _ none)
+      sym is ∙ ap run c.of.ensures.is ∙ sym (construct_none _ _ _ _ _ _ _ _ _ _ none)
 
 -- what is known after the test of a sample
 module _ (c : tie.After-is-valid invariant-samples decreases-samples) where
@@ -55,8 +55,8 @@ module _ (c : tie.After-is-valid invariant-samples decreases-samples) where
   more = omega (arith, turn.samples-test.taken)
 
 returns : tie.Need-returns invariant-samples decreases-samples
-unfolding milestonesOf
-returns c = sym (construct-some _ _ _ _ _ _ _ _ _ _ (λ e. c.if1.true (omega arith)))
+unfolding milestones_of
+returns c = sym (construct_some _ _ _ _ _ _ _ _ _ _ (λ e. c.if1.true (omega arith)))
 
 of-requires : tie.Need-of-requires invariant-samples decreases-samples
 of-requires c κs = search rules
@@ -68,10 +68,10 @@ samples-holds c =
       within = omega arith;
       few = omega arith;
       room = omega arith;
-      az-sized = refl;
-      el-sized = refl;
-      feed-sized = refl;
-      legs-sized = refl;
+      az_sized = refl;
+      el_sized = refl;
+      feed_sized = refl;
+      legs_sized = refl;
       clean = clean 1024 0;
       is = refl;
     }
@@ -113,7 +113,7 @@ join-earlier-requires : tie.Need-join-earlier-requires invariant-samples decreas
 join-earlier-requires c κs =
     let inside = c.before.before.before.before.before.before.before in
     let h = (head inside.before.before).samples.inv in
-    (inside.if3.true, h.legs-sized)
+    (inside.if3.true, h.legs_sized)
 
 mul-az : tie.Need-overflow-mul-az invariant-samples decreases-samples
 mul-az c = omega arith
@@ -140,12 +140,12 @@ empty-requires : tie.Need-empty-requires invariant-samples decreases-samples
 empty-requires c κs = search rules
 
 returns-2 : tie.Need-returns-2 invariant-samples decreases-samples
-unfolding milestonesOf
+unfolding milestones_of
 returns-2 c =
     let v = c.before.before.before in
     let h = (head v).samples in
     ap (λ (ms : List Milestone). record { map = ms; answer = Full; taken = h.taken + 1 }) c.empty.ensures
-    ∙ answered (head v).before _ (build-full h.inv (more v) v.is-valid.ensures c.before.before.if2.true c.before.if3.false)
+    ∙ answered (head v).before _ (build_full h.inv (more v) v.is-valid.ensures c.before.before.if2.true c.before.if3.false)
 
 add_at : tie.Need-overflow-add-at invariant-samples decreases-samples
 add_at c = omega arith
@@ -158,11 +158,11 @@ samples-again c =
     let v = c.before in
     let h = (head v).samples.invariant in
     ⊎_elim
-    (λ w. build-added h (more v) v.is-valid.ensures w.0.taken w.1.taken (rw w.13 w.9.ensures) w.10 w.11 w.12 w.14)
-    (λ w. build-passed h (more v) v.is-valid.ensures w.0.left w.1 w.2 w.3 w.4 w.5) c.if2.branch
+    (λ w. build_added h (more v) v.is-valid.ensures w.0.taken w.1.taken (rw w.13 w.9.ensures) w.10 w.11 w.12 w.14)
+    (λ w. build_passed h (more v) v.is-valid.ensures w.0.left w.1 w.2 w.3 w.4 w.5) c.if2.branch
 
 returns-3 : tie.Need-returns-3 invariant-samples decreases-samples
-unfolding milestonesOf
+unfolding milestones_of
 returns-3 c =
     let h = c.before.samples in
     let full : min h.count 256 ≡ h.count = omega (arith, h.invariant.room) in

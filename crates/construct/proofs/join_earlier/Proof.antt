@@ -4,24 +4,24 @@ use mathlib.Core.Logic.{⊎_elim}
 use mathlib.Core.Path.{◌≡◌, ◌∙◌}
 use native.Mathlib.Omega.{arith}
 use borrow.Author.Rules.{rules}
-use Rattle.columns.specs.Columns.{columnsOf}
-use Rattle.construct.specs.Construct.{joinedOf}
+use Rattle.columns.specs.Columns.{columns_of}
+use Rattle.construct.specs.Construct.{joined_of}
 use Rattle.state.specs.Rows.{row_at}
 use Rattle.roadmap.specs.View.{Joins}
-use Rattle.roadmap.proofs.Joins.{joins-none, joins-yes, joins-not}
-use Rattle.construct.proofs.Joined.{joined-far, joined-near}
+use Rattle.roadmap.proofs.Joins.{joins_none, joins_yes, joins_not}
+use Rattle.construct.proofs.Joined.{joined_far, joined_near}
 use Rattle.construct.proofs.join_earlier.Statement.{statement}
 use Rattle.construct.proofs.join_earlier.Tie as tie
 
 abbrev invariant-earlier : tie.invariant-earlier
 invariant-earlier limits segment kinds numbers keep-outs radius new az el feed n legs₀ j₀ legs j =
-    (j ≤ n) × Joins legs₀ n j (λ (i : ℕ). joinedOf limits segment (columnsOf kinds numbers keep-outs) radius new (row_at az el feed i)) legs
+    (j ≤ n) × Joins legs₀ n j (λ (i : ℕ). joined_of limits segment (columns_of kinds numbers keep-outs) radius new (row_at az el feed i)) legs
 
 abbrev decreases-earlier : tie.decreases-earlier
 decreases-earlier limits segment kinds numbers keep-outs radius new az el feed n legs₀ j₀ legs j = n - j
 
 earlier-holds : tie.Need-earlier-init invariant-earlier decreases-earlier
-earlier-holds c = (omega arith, joins-none _ _ _)
+earlier-holds c = (omega arith, joins_none _ _ _)
 
 mul-if1 : tie.Need-overflow-mul-if1 invariant-earlier decreases-earlier
 mul-if1 c = omega arith
@@ -64,11 +64,11 @@ earlier-again c =
     let far = c.before.distance.ensures in (
       omega arith,
       ⊎_elim
-          (λ w. rw w.5 (joins-yes _ _ _ _ _ _ h.earlier.invariant.1 w.4.ensures (joined-near _ _ _ _ _ _ _ far _ w.1.ensures w.0.taken ∙ w.2.taken)))
+          (λ w. rw w.5 (joins_yes _ _ _ _ _ _ h.earlier.invariant.1 w.4.ensures (joined_near _ _ _ _ _ _ _ far _ w.1.ensures w.0.taken ∙ w.2.taken)))
           (λ w.
           ⊎_elim
-          (λ v. rw v.3 (joins-not _ _ _ _ _ h.earlier.invariant.1 (joined-near _ _ _ _ _ _ _ far _ v.1.ensures v.0.taken ∙ v.2.left)))
-          (λ v. rw v.1 (joins-not _ _ _ _ _ h.earlier.invariant.1 (joined-far _ _ _ _ _ _ _ far v.0.left))) w) c.if1.branch,
+          (λ v. rw v.3 (joins_not _ _ _ _ _ h.earlier.invariant.1 (joined_near _ _ _ _ _ _ _ far _ v.1.ensures v.0.taken ∙ v.2.left)))
+          (λ v. rw v.1 (joins_not _ _ _ _ _ h.earlier.invariant.1 (joined_far _ _ _ _ _ _ _ far v.0.left))) w) c.if1.branch,
     )
 
 returns : tie.Need-returns invariant-earlier decreases-earlier

@@ -1,10 +1,10 @@
 -- `ending::write` meets its contract.
 use Prim.Native.Nat.{◌≤◌}
 use native.Mathlib.Omega.{arith}
-use Rattle.tree.specs.Table.{nodesIn}
-use Rattle.tree.proofs.Append.{states-length}
-use Rattle.turn.specs.Turn.{columnsAt}
-use Rattle.ending.proofs.Endings.{end-goes-on, end-full, end-goal, end-joined}
+use Rattle.tree.specs.Table.{nodes_in}
+use Rattle.tree.proofs.Append.{states_length}
+use Rattle.turn.specs.Turn.{columns_at}
+use Rattle.ending.proofs.Endings.{end_goes_on, end_full, end_goal, end_joined}
 use borrow.Author.Rules.{rules}
 use Rattle.ending.proofs.write.Statement.{statement}
 use Rattle.ending.proofs.write.Tie as tie
@@ -15,15 +15,15 @@ module _ (c : tie.After-reconstruct-path2) where
   start = c.before.before.before.before.before
 
   short : c.reconstruct-path2.result ≤ 512
-  unfolding nodesIn
-  short = omega (arith, c.reconstruct-path2.ensures.few, states-length start.args.az.now start.args.el.now start.args.feed.now start.args.n start.pre.1)
+  unfolding nodes_in
+  short = omega (arith, c.reconstruct-path2.ensures.few, states_length start.args.az.now start.args.el.now start.args.feed.now start.args.n start.pre.1)
 
 -- the way up the goal tree is shorter than that
 up-short : (c : tie.After-append-ancestors) → c.append-ancestors.result ≤ 512
-unfolding nodesIn
+unfolding nodes_in
 up-short c =
     let s = start c.before.before.before.before in
-    omega (arith, c.append-ancestors.ensures.few, states-length s.args.goal-az.now s.args.goal-el.now s.args.goal-feed.now s.args.m s.pre.3)
+    omega (arith, c.append-ancestors.ensures.few, states_length s.args.goal-az.now s.args.goal-el.now s.args.goal-feed.now s.args.m s.pre.3)
 
 enum_told : tie.Need-enum-told
 enum_told c = search rules
@@ -64,10 +64,10 @@ add-result c =
     omega (arith, short up.before.before.before.before, up-short up)
 
 returns : tie.Need-returns
-returns c = end-goes-on _ _ _ _ _ _ c.enum_told.given.1
+returns c = end_goes_on _ _ _ _ _ _ c.enum_told.given.1
 
 returns-2 : tie.Need-returns-2
-returns-2 c = end-full _ _ _ _ _ _ c.enum-told2.given.1
+returns-2 c = end_full _ _ _ _ _ _ c.enum-told2.given.1
 
 same_length : tie.Need-same-length
 same_length c = search rules
@@ -76,8 +76,8 @@ returns-3 : tie.Need-returns-3
 returns-3 c =
     let path = c.before.before in
     let s = path.before.before.before.before.before in
-    end-goal _ _ (columnsAt s.args.az.now s.args.el.now s.args.feed.now s.args.parent.now)
-    (columnsAt s.args.goal-az.now s.args.goal-el.now s.args.goal-feed.now s.args.goal-parent.now) _ s.requires.1 s.requires.3 _
+    end_goal _ _ (columns_at s.args.az.now s.args.el.now s.args.feed.now s.args.parent.now)
+    (columns_at s.args.goal-az.now s.args.goal-el.now s.args.goal-feed.now s.args.goal-parent.now) _ s.requires.1 s.requires.3 _
     path.before.before.enum-told3.given.1 _ _ path.reconstruct-path.ensures
 
 same-length-2 : tie.Need-same-length-2
@@ -88,8 +88,8 @@ returns-4 c =
     let up = c.before.before in
     let path = up.before.before.before.before in
     let s = start path in
-    end-joined _ _ (columnsAt s.args.az.now s.args.el.now s.args.feed.now s.args.parent.now)
-    (columnsAt s.args.goal-az.now s.args.goal-el.now s.args.goal-feed.now s.args.goal-parent.now) _ s.pre.1 s.pre.3 _
+    end_joined _ _ (columns_at s.args.az.now s.args.el.now s.args.feed.now s.args.parent.now)
+    (columns_at s.args.goal-az.now s.args.goal-el.now s.args.goal-feed.now s.args.goal-parent.now) _ s.pre.1 s.pre.3 _
     path.before.before.enum-told4.given.1 _ _ _ _ path.reconstruct-path2.ensures up.append-ancestors.ensures
 
 pub write_spec : {M : Type 1} → statement M

@@ -6,7 +6,7 @@ use borrow.Author.Rules.{rules}
 use lib.ListN.{length}
 use Rattle.laws.specs.Rest.{mapped, within}
 use Rattle.keep_out_table.specs.Table.{held_of}
-use Rattle.given.specs.Given.{firstIn}
+use Rattle.given.specs.Given.{first_in}
 use Rattle.given.proofs.keep_out.Statement.{statement}
 use Rattle.given.proofs.keep_out.Tie as tie
 
@@ -18,7 +18,7 @@ element-copy-out-slot : tie.Need-element-copy-out-slot
 element-copy-out-slot c = search rules
 
 returns : tie.Need-returns
-unfolding firstIn
+unfolding first_in
 returns c =
     let slots = c.before.args.t1.slots in
     let some : 0 < length slots = omega (arith, sized c.before) in

@@ -1,6 +1,6 @@
 -- `given::limits` meets its contract.
 use borrow.Author.Rules.{rules}
-use Rattle.given.specs.Given.{limitsIn}
+use Rattle.given.specs.Given.{limits_in}
 use Rattle.given.proofs.limits.Statement.{statement}
 use Rattle.given.proofs.limits.Tie as tie
 
@@ -23,7 +23,7 @@ number-requires-6 : tie.Need-number-requires-6
 number-requires-6 c κs = search rules
 
 returns : tie.Need-returns
-unfolding limitsIn
+unfolding limits_in
 returns c =
     rw (
       c.before.before.before.before.before.number.ensures,

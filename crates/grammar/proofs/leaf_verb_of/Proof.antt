@@ -1,7 +1,7 @@
 -- `grammar::leaf_verb_of` meets its contract: the code and the definition make the same tests in the same order.
 -- Past the fifth test the walk is longer than `search` goes by itself.
 use borrow.Author.Rules.{rules}
-use Rattle.grammar.specs.Words.{leafVerbOf, bytes_of}
+use Rattle.grammar.specs.Words.{leaf_verb_named, bytes_of}
 use Rattle.grammar.proofs.Tests.{tests}
 use Rattle.grammar.proofs.leaf_verb_of.Statement.{statement}
 use Rattle.grammar.proofs.leaf_verb_of.Tie as tie
@@ -13,7 +13,7 @@ same-requires : tie.Need-same-requires
 same-requires c κs = search rules
 
 returns : tie.Need-returns
-unfolding leafVerbOf bytes_of
+unfolding leaf_verb_named bytes_of
 returns c = search tests
 
 slice-aggregate-same-2 : tie.Need-slice-aggregate-same-2
@@ -23,7 +23,7 @@ same-requires-2 : tie.Need-same-requires-2
 same-requires-2 c κs = search rules
 
 returns-2 : tie.Need-returns-2
-unfolding leafVerbOf bytes_of
+unfolding leaf_verb_named bytes_of
 returns-2 c = search tests
 
 slice-aggregate-same-3 : tie.Need-slice-aggregate-same-3
@@ -33,7 +33,7 @@ same-requires-3 : tie.Need-same-requires-3
 same-requires-3 c κs = search rules
 
 returns-3 : tie.Need-returns-3
-unfolding leafVerbOf bytes_of
+unfolding leaf_verb_named bytes_of
 returns-3 c = search tests
 
 slice-aggregate-same-4 : tie.Need-slice-aggregate-same-4
@@ -43,7 +43,7 @@ same-requires-4 : tie.Need-same-requires-4
 same-requires-4 c κs = search rules
 
 returns-4 : tie.Need-returns-4
-unfolding leafVerbOf bytes_of
+unfolding leaf_verb_named bytes_of
 returns-4 c = search tests
 
 slice-aggregate-same-5 : tie.Need-slice-aggregate-same-5
@@ -53,7 +53,7 @@ same-requires-5 : tie.Need-same-requires-5
 same-requires-5 c κs = search rules
 
 returns-5 : tie.Need-returns-5
-unfolding leafVerbOf bytes_of
+unfolding leaf_verb_named bytes_of
 returns-5 c = search tests
 
 slice-aggregate-same-6 : tie.Need-slice-aggregate-same-6
@@ -63,11 +63,11 @@ same-requires-6 : tie.Need-same-requires-6
 same-requires-6 c κs = search rules
 
 returns-6 : tie.Need-returns-6
-unfolding leafVerbOf bytes_of
+unfolding leaf_verb_named bytes_of
 returns-6 c = search tests depth 8 fits 2000
 
 returns-7 : tie.Need-returns-7
-unfolding leafVerbOf bytes_of
+unfolding leaf_verb_named bytes_of
 returns-7 c = search tests depth 8 fits 2000
 
 pub leaf-verb-of-spec : {M : Type 1} → statement M

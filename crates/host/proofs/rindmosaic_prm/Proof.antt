@@ -1,10 +1,10 @@
 -- `host::rindmosaic_prm` meets its contract.
 use borrow.Author.Rules.{rules}
-use Rattle.prm.specs.Planner.{answeredOf}
-use Rattle.parking.specs.Park.{buildOf}
-use Rattle.parking.specs.Chart.{chartOf}
-use Rattle.host.specs.Call.{prmTold, prmCall}
-use Rattle.host.proofs.Calls.{charted, call-unknown, call-refused, call-reported}
+use Rattle.prm.specs.Planner.{answered_of}
+use Rattle.parking.specs.Park.{build_of}
+use Rattle.parking.specs.Chart.{chart_of}
+use Rattle.host.specs.Call.{prm_told, prm_call}
+use Rattle.host.proofs.Calls.{charted, call_unknown, call_refused, call_reported}
 use Rattle.host.proofs.rindmosaic_prm.Statement.{statement}
 use Rattle.host.proofs.rindmosaic_prm.Tie as tie
 
@@ -36,7 +36,7 @@ same_length : tie.Need-same-length
 same_length c = search rules
 
 returns : tie.Need-returns
-unfolding prmCall
+unfolding prm_call
 returns c =
     let chart = c.before.before.before in
     let number = chart.before.before.before in
@@ -45,14 +45,14 @@ returns c =
     let table = known.before in
     let fields = table.before in
     let is = rw fields.fields_in.ensures at made.setup.ensures in
-    call-reported (chartOf (buildOf _ _ _ _) _) (prmTold fields.before.before.before.before.args.setup.now) _ _ _ _ _ _ table.table_of.ensures _ known.are-known-with.ensures made.before.before.if1.true _ made.before.new.ensures
-    (answeredOf made.setup.result) is _ number.number.ensures chart.before.before.if2.true _ _ (charted _ _ _ chart.chart.ensures _ c.number2.ensures)
+    call_reported (chart_of (build_of _ _ _ _) _) (prm_told fields.before.before.before.before.args.setup.now) _ _ _ _ _ _ table.table_of.ensures _ known.are-known-with.ensures made.before.before.if1.true _ made.before.new.ensures
+    (answered_of made.setup.result) is _ number.number.ensures chart.before.before.if2.true _ _ (charted _ _ _ chart.chart.ensures _ c.number2.ensures)
 
 refused-requires : tie.Need-refused-requires
 refused-requires c κs = search rules
 
 returns-2 : tie.Need-returns-2
-unfolding prmCall
+unfolding prm_call
 returns-2 c =
     let number = c.before.before in
     let made = number.before in
@@ -60,18 +60,18 @@ returns-2 c =
     let table = known.before in
     let fields = table.before in
     let is = rw fields.fields_in.ensures at made.setup.ensures in
-    call-refused (chartOf (buildOf _ _ _ _) _) (prmTold fields.before.before.before.before.args.setup.now) _ _ _ _ _ _ table.table_of.ensures _ known.are-known-with.ensures made.before.before.if1.true _ made.before.new.ensures
-    (answeredOf made.setup.result) is _ number.number.ensures c.before.if2.false _ c.refused.ensures
+    call_refused (chart_of (build_of _ _ _ _) _) (prm_told fields.before.before.before.before.args.setup.now) _ _ _ _ _ _ table.table_of.ensures _ known.are-known-with.ensures made.before.before.if1.true _ made.before.new.ensures
+    (answered_of made.setup.result) is _ number.number.ensures c.before.if2.false _ c.refused.ensures
 
 refused-requires-2 : tie.Need-refused-requires-2
 refused-requires-2 c κs = search rules
 
 returns-3 : tie.Need-returns-3
-unfolding prmCall
+unfolding prm_call
 returns-3 c =
     let known = c.before.before in
     let table = known.before in
-    call-unknown (chartOf (buildOf _ _ _ _) _) (prmTold table.before.before.before.before.before.args.setup.now) _ _ _ _ _ _ table.table_of.ensures _ known.are-known-with.ensures c.before.if1.false _ c.refused2.ensures
+    call_unknown (chart_of (build_of _ _ _ _) _) (prm_told table.before.before.before.before.before.args.setup.now) _ _ _ _ _ _ table.table_of.ensures _ known.are-known-with.ensures c.before.if1.false _ c.refused2.ensures
 
 pub rindmosaic-prm-spec : {M : Type 1} → statement M
 rindmosaic-prm-spec =

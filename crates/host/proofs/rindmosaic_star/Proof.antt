@@ -1,9 +1,9 @@
 -- `host::rindmosaic_star` meets its contract.
 use borrow.Author.Rules.{rules}
-use Rattle.rrt_star.specs.Planner.{answeredOf}
-use Rattle.rrt_star.specs.Solve.{solvedOf, solveOf}
-use Rattle.host.specs.Call.{starTold, starCall}
-use Rattle.host.proofs.Calls.{call-unknown, call-refused, call-solved}
+use Rattle.rrt_star.specs.Planner.{answered_of}
+use Rattle.rrt_star.specs.Solve.{solved_of, solve_of}
+use Rattle.host.specs.Call.{star_told, star_call}
+use Rattle.host.proofs.Calls.{call_unknown, call_refused, call_solved}
 use Rattle.host.proofs.rindmosaic_star.Statement.{statement}
 use Rattle.host.proofs.rindmosaic_star.Tie as tie
 
@@ -35,7 +35,7 @@ same_length : tie.Need-same-length
 same_length c = search rules
 
 returns : tie.Need-returns
-unfolding starCall
+unfolding star_call
 returns c =
     let solve = c.before.before.before in
     let number = solve.before.before.before in
@@ -45,14 +45,14 @@ returns c =
     let fields = table.before in
     let args = fields.before.before.before.before.args in
     let is = rw fields.fields_in.ensures at made.setup.ensures in
-    call-solved solveOf (starTold args.setup.now args.search-radius) _ _ _ _ _ _ table.table_of.ensures _ known.are-known.ensures made.before.before.if1.true _ made.before.new.ensures
-    (answeredOf made.setup.result) is _ number.number.ensures solve.before.before.if2.true (solvedOf solve.solve.result _) solve.solve.ensures _ c.number2.ensures
+    call_solved solve_of (star_told args.setup.now args.search-radius) _ _ _ _ _ _ table.table_of.ensures _ known.are-known.ensures made.before.before.if1.true _ made.before.new.ensures
+    (answered_of made.setup.result) is _ number.number.ensures solve.before.before.if2.true (solved_of solve.solve.result _) solve.solve.ensures _ c.number2.ensures
 
 refused-requires : tie.Need-refused-requires
 refused-requires c κs = search rules
 
 returns-2 : tie.Need-returns-2
-unfolding starCall
+unfolding star_call
 returns-2 c =
     let number = c.before.before in
     let made = number.before in
@@ -61,19 +61,19 @@ returns-2 c =
     let fields = table.before in
     let args = fields.before.before.before.before.args in
     let is = rw fields.fields_in.ensures at made.setup.ensures in
-    call-refused solveOf (starTold args.setup.now args.search-radius) _ _ _ _ _ _ table.table_of.ensures _ known.are-known.ensures made.before.before.if1.true _ made.before.new.ensures
-    (answeredOf made.setup.result) is _ number.number.ensures c.before.if2.false _ c.refused.ensures
+    call_refused solve_of (star_told args.setup.now args.search-radius) _ _ _ _ _ _ table.table_of.ensures _ known.are-known.ensures made.before.before.if1.true _ made.before.new.ensures
+    (answered_of made.setup.result) is _ number.number.ensures c.before.if2.false _ c.refused.ensures
 
 refused-requires-2 : tie.Need-refused-requires-2
 refused-requires-2 c κs = search rules
 
 returns-3 : tie.Need-returns-3
-unfolding starCall
+unfolding star_call
 returns-3 c =
     let known = c.before.before in
     let table = known.before in
     let args = table.before.before.before.before.before.args in
-    call-unknown solveOf (starTold args.setup.now args.search-radius) _ _ _ _ _ _ table.table_of.ensures _ known.are-known.ensures c.before.if1.false _ c.refused2.ensures
+    call_unknown solve_of (star_told args.setup.now args.search-radius) _ _ _ _ _ _ table.table_of.ensures _ known.are-known.ensures c.before.if1.false _ c.refused2.ensures
 
 pub rindmosaic-star-spec : {M : Type 1} → statement M
 rindmosaic-star-spec =

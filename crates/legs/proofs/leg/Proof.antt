@@ -1,5 +1,5 @@
 -- `legs::leg` meets its contract.
-use Rattle.legs.specs.Bits.{bit_of, legAt}
+use Rattle.legs.specs.Bits.{bit_of, leg_at}
 use borrow.Author.Rules.{rules}
 use Rattle.legs.proofs.leg.Statement.{statement}
 use Rattle.legs.proofs.leg.Tie as tie
@@ -20,7 +20,7 @@ shr-result : tie.Need-overflow-shr-result
 shr-result c = search rules
 
 returns : tie.Need-returns
-unfolding legAt bit_of
+unfolding leg_at bit_of
 returns c = search rules
 
 pub leg-spec : {M : Type 1} → statement M

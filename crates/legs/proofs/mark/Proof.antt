@@ -1,7 +1,7 @@
 -- `legs::mark` meets its contract.
 use lib.ListN.{length-set}
 use native.Mathlib.Omega.{arith}
-use Rattle.legs.proofs.Square.{mark-is}
+use Rattle.legs.proofs.Square.{mark_is}
 use borrow.Author.Rules.{rules}
 use Rattle.legs.proofs.mark.Statement.{statement}
 use Rattle.legs.proofs.mark.Tie as tie
@@ -33,7 +33,7 @@ same_length c = search rules
 returns : tie.Need-returns
 returns c =
     let s = c.before in
-    record { long = simp length-set; is = λ a b ha hb. mark-is s.args.rows.now s.args.i s.args.j (omega (arith, s.requires.2)) s.requires.1 a b hb }
+    record { long = simp length-set; is = λ a b ha hb. mark_is s.args.rows.now s.args.i s.args.j (omega (arith, s.requires.2)) s.requires.1 a b hb }
 
 pub mark_spec : {M : Type 1} → statement M
 mark_spec =

@@ -4,13 +4,13 @@ use mathlib.Core.Path.{◌≡◌, refl}
 use native.Mathlib.Omega.{arith}
 use borrow.Author.Rules.{rules}
 use lib.Count.{count_trailing_zeros}
-use Rattle.legs.specs.Bits.{unseenAt}
-use Rattle.legs.proofs.Walk.{Passed, none_passed, zeros-few, found, no_more}
+use Rattle.legs.specs.Bits.{unseen_at}
+use Rattle.legs.proofs.Walk.{Passed, none_passed, zeros_few, found, no_more}
 use Rattle.legs.proofs.next_unseen.Statement.{statement}
 use Rattle.legs.proofs.next_unseen.Tie as tie
 
 abbrev invariant-words : tie.invariant-words
-invariant-words legs i seen from at₀ at = (from ≤ at) × (at ≤ 256) × Passed (unseenAt legs i seen) from at
+invariant-words legs i seen from at₀ at = (from ≤ at) × (at ≤ 256) × Passed (unseen_at legs i seen) from at
 
 abbrev decreases-words : tie.decreases-words
 decreases-words legs i seen from at₀ at = 256 - at
@@ -23,7 +23,7 @@ module _ (c : tie.After-without invariant-words decreases-words) where
   rest = c.without.result / 2 ^ (head.words.at % 64)
 
   few : 0 < rest → count_trailing_zeros 64 rest < 64 - head.words.at % 64
-  few = zeros-few head.before.args.legs.now head.before.args.i head.before.args.seen.now head.words.at c.without.result rest c.without.ensures refl
+  few = zeros_few head.before.args.legs.now head.before.args.i head.before.args.seen.now head.words.at c.without.result rest c.without.ensures refl
 
 words-holds : tie.Need-words-init invariant-words decreases-words
 words-holds c = (omega arith, omega arith, none_passed _ _)

@@ -3,13 +3,13 @@ use Prim.Native.Nat.{◌≤◌, ◌-◌, min}
 use mathlib.Core.Path.{◌≡◌}
 use native.Mathlib.Omega.{arith}
 use borrow.Author.Rules.{rules}
-use Rattle.listing.specs.Table.{knownFrom, known_of}
-use Rattle.listing.proofs.Known.{known-first, known_on, known-not, known-all}
+use Rattle.listing.specs.Table.{known_from, known_of}
+use Rattle.listing.proofs.Known.{known_first, known_on, known_not, known_all}
 use Rattle.listing.proofs.are_known.Statement.{statement}
 use Rattle.listing.proofs.are_known.Tie as tie
 
 abbrev invariant-rows : tie.invariant-rows
-invariant-rows kinds count rows j₀ j = (j ≤ rows) × (rows ≡ min count 32) × (known_of kinds count ≡ knownFrom kinds (rows - j) j)
+invariant-rows kinds count rows j₀ j = (j ≤ rows) × (rows ≡ min count 32) × (known_of kinds count ≡ known_from kinds (rows - j) j)
 
 abbrev decreases-rows : tie.decreases-rows
 decreases-rows kinds count rows j₀ j = rows - j
@@ -18,7 +18,7 @@ rows-of-requires : tie.Need-rows-of-requires invariant-rows decreases-rows
 rows-of-requires c κs = search rules
 
 rows-holds : tie.Need-rows-init invariant-rows decreases-rows
-rows-holds c = (omega arith, c.rows_of_lem.ensures, known-first _ _ _ c.rows_of_lem.ensures)
+rows-holds c = (omega arith, c.rows_of_lem.ensures, known_first _ _ _ c.rows_of_lem.ensures)
 
 element-copy-out-if1 : tie.Need-element-copy-out-if1 invariant-rows decreases-rows
 element-copy-out-if1 c = omega arith
@@ -39,12 +39,12 @@ returns : tie.Need-returns invariant-rows decreases-rows
 returns c =
     let turn = c.before.before in
     let h = turn.before.rows.invariant in
-    known-not _ _ _ h.1 _ h.2 turn.rows-test.true c.if1.false
+    known_not _ _ _ h.1 _ h.2 turn.rows-test.true c.if1.false
 
 returns-2 : tie.Need-returns-2 invariant-rows decreases-rows
 returns-2 c =
     let h = c.before.rows.invariant in
-    known-all _ _ _ h.1 _ h.2 c.rows-test.false
+    known_all _ _ _ h.1 _ h.2 c.rows-test.false
 
 pub are-known-spec : {M : Type 1} → statement M
 are-known-spec =

@@ -1,7 +1,7 @@
 -- `listing::are_known_with` meets its contract.
 use mathlib.Core.Path.{◌∙◌}
 use borrow.Author.Rules.{rules}
-use Rattle.listing.proofs.Known.{known-with}
+use Rattle.listing.proofs.Known.{known_with}
 use Rattle.listing.proofs.are_known_with.Statement.{statement}
 use Rattle.listing.proofs.are_known_with.Tie as tie
 
@@ -18,7 +18,7 @@ are-known-requires : tie.Need-are-known-requires
 are-known-requires c κs = search rules
 
 returns : tie.Need-returns
-returns c = c.are-known.ensures ∙ known-with _ _ _ _ _ c.before.before.rows_of_lem.ensures c.before.rows-of2.ensures
+returns c = c.are-known.ensures ∙ known_with _ _ _ _ _ c.before.before.rows_of_lem.ensures c.before.rows-of2.ensures
 
 pub are-known-with-spec : {M : Type 1} → statement M
 are-known-with-spec =

@@ -9,7 +9,7 @@ use Rattle.keep_out.specs.declared.KeepOut.TheVariants.{Floor}
 use Rattle.keep_out_table.specs.declared.KeepOuts.{KeepOuts}
 use Rattle.keep_out_table.specs.declared.Slot.{Slot}
 use Rattle.columns.proofs.Spread.{Rowed}
-use Rattle.listing.proofs.Listing.{empty-size, rowed-set, listed-is}
+use Rattle.listing.proofs.Listing.{empty_size, rowed_set, listed_is}
 use Rattle.listing.proofs.table_of.Statement.{statement}
 use Rattle.listing.proofs.table_of.Tie as tie
 
@@ -32,7 +32,7 @@ new-requires c κs = search rules
 
 rows-holds : tie.Need-rows-init invariant-rows decreases-rows
 rows-holds c =
-    (omega arith, c.before.rows_of_lem.ensures, ap (λ (t : KeepOuts). length t.slots) c.new.ensures ∙ empty-size, λ i h. absurd (nothing i h))
+    (omega arith, c.before.rows_of_lem.ensures, ap (λ (t : KeepOuts). length t.slots) c.new.ensures ∙ empty_size, λ i h. absurd (nothing i h))
   where
     nothing : (i : ℕ) → i < 0 → ⊥
     nothing i h = omega arith
@@ -57,12 +57,12 @@ rows-again c =
     let turn = c.before in
     let h = turn.before.rows.invariant in
     let room : turn.before.rows.j < length turn.before.rows.table.slots = omega arith in
-    (omega arith, h.1, simp length-set h.2, rowed-set _ _ turn.before.rows.table.slots none _ c.keep-out-at.result room c.keep-out-at.ensures h.3)
+    (omega arith, h.1, simp length-set h.2, rowed_set _ _ turn.before.rows.table.slots none _ c.keep-out-at.result room c.keep-out-at.ensures h.3)
 
 returns : tie.Need-returns invariant-rows decreases-rows
 returns c =
     let h = c.before.rows.invariant in
-    record { is = listed-is _ _ _ none _ _ _ h.2 h.1 c.rows-test.false h.3; many = refl }
+    record { is = listed_is _ _ _ none _ _ _ h.2 h.1 c.rows-test.false h.3; many = refl }
 
 pub table-of-spec : {M : Type 1} → statement M
 table-of-spec =

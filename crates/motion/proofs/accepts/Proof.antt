@@ -4,20 +4,20 @@ use mathlib.Core.Logic.{⊎_elim}
 use mathlib.Core.Path.{◌≡◌, sym, ◌∙◌, ap}
 use native.Mathlib.Omega.{arith}
 use borrow.Author.Rules.{rules}
-use Rattle.keep_out.specs.Covers.{coveredOf}
-use Rattle.columns.specs.Columns.{columnsOf}
-use Rattle.columns.proofs.Walk.{covered, coveredFrom, covered-are, covered-here, covered-later, covered_none}
+use Rattle.keep_out.specs.Covers.{covered_of}
+use Rattle.columns.specs.Columns.{columns_of}
+use Rattle.columns.proofs.Walk.{covered, covered_from, covered_are, covered_here, covered_later, covered_none}
 use Rattle.motion.specs.declared.Steps.TheVariants.{Count}
 use Rattle.motion.specs.Points.{steps_of}
-use Rattle.motion.specs.Accepts.{allValid, acceptsOf}
-use Rattle.motion.proofs.Search.{steps-few}
-use Rattle.motion.proofs.Walk.{left_at, tested-are, walk_end, point-out, point-hit, point-free, accepts-many, accepts-count}
+use Rattle.motion.specs.Accepts.{all_valid, accepts_of}
+use Rattle.motion.proofs.Search.{steps_few}
+use Rattle.motion.proofs.Walk.{left_at, tested_are, walk_end, point_out, point_hit, point_free, accepts_many, accepts_count}
 use Rattle.motion.proofs.accepts.Statement.{statement}
 use Rattle.motion.proofs.accepts.Tie as tie
 
 abbrev invariant-keep-outs : tie.invariant-keep-outs
 invariant-keep-outs limits segment kinds numbers count from to n rows last i s j₀ j =
-    (j ≤ rows) × (coveredOf (columnsOf kinds numbers count) s ≡ coveredFrom kinds numbers rows s j)
+    (j ≤ rows) × (covered_of (columns_of kinds numbers count) s ≡ covered_from kinds numbers rows s j)
 
 abbrev decreases-keep-outs : tie.decreases-keep-outs
 decreases-keep-outs limits segment kinds numbers count from to n rows last i s j₀ j = rows - j
@@ -25,18 +25,18 @@ decreases-keep-outs limits segment kinds numbers count from to n rows last i s j
 abbrev invariant-points : tie.invariant-points
 invariant-points limits segment kinds numbers count from to n rows last i₀ i =
     (i ≤ last + 1) × ((last ≤ 4096) × (n ≤ 4096)) × (rows ≡ min count 32)
-    × (let ks = columnsOf kinds numbers count in
-    acceptsOf limits segment ks from to ≡ left_at limits ks from to n last i)
+    × (let ks = columns_of kinds numbers count in
+    accepts_of limits segment ks from to ≡ left_at limits ks from to n last i)
 
 abbrev decreases-points : tie.decreases-points
 decreases-points limits segment kinds numbers count from to n rows last i₀ i = last + 1 - i
 
 -- the number of steps that the match found
-count-is :
+count_is :
     (c : tie.After-known-told invariant-keep-outs decreases-keep-outs invariant-points decreases-points) →
     let a = c.before.before.before.before.args in
     Count c.before.n.given.0.0 ≡ steps_of a.segment a.from a.to
-count-is c = sym c.before.n.given.1 ∙ c.before.before.before.num-steps.ensures
+count_is c = sym c.before.n.given.1 ∙ c.before.before.before.num-steps.ensures
 
 num-steps-requires : tie.Need-num-steps-requires invariant-keep-outs decreases-keep-outs invariant-points decreases-points
 num-steps-requires c κs = search rules
@@ -48,7 +48,7 @@ enum_told : tie.Need-enum-told invariant-keep-outs decreases-keep-outs invariant
 enum_told c = search rules
 
 returns : tie.Need-returns invariant-keep-outs decreases-keep-outs invariant-points decreases-points
-returns c = accepts-many _ _ _ _ _ (sym c.enum_told.given.1 ∙ c.before.before.num-steps.ensures)
+returns c = accepts_many _ _ _ _ _ (sym c.enum_told.given.1 ∙ c.before.before.num-steps.ensures)
 
 rows-of-requires : tie.Need-rows-of-requires invariant-keep-outs decreases-keep-outs invariant-points decreases-points
 rows-of-requires c κs = search rules
@@ -59,16 +59,16 @@ points-holds c =
     let a = told.before.before.before.before.args in
     let n = told.before.n.given.0.0 in
     let last = c.if1.new in
-    let few : n ≤ 4096 = steps-few _ _ _ n (count-is told) in
-    let ks = columnsOf a.kinds.now a.numbers.now a.count in
+    let few : n ≤ 4096 = steps_few _ _ _ n (count_is told) in
+    let ks = columns_of a.kinds.now a.numbers.now a.count in
     let e : c.before.rows_of_lem.result ≡ min a.count 32 = c.before.rows_of_lem.ensures in
     let l : last ≡ max n 1 = ⊎_elim (λ w. omega arith) (λ w. omega arith) c.if1.branch in
     let z : last + 1 - 1 ≡ last = omega arith in (
       omega arith,
       (omega arith, few),
       e,
-      sym (accepts-count a.limits a.segment ks a.from a.to n (count-is told))
-          ∙ ap (allValid a.limits ks) (tested-are a.from a.to n last (λ h. omega arith) (λ h. omega arith)) ∙ rw z,
+      sym (accepts_count a.limits a.segment ks a.from a.to n (count_is told))
+          ∙ ap (all_valid a.limits ks) (tested_are a.from a.to n last (λ h. omega arith) (λ h. omega arith)) ∙ rw z,
     )
 
 point-requires : tie.Need-point-requires invariant-keep-outs decreases-keep-outs invariant-points decreases-points
@@ -80,7 +80,7 @@ within-requires c κs = search rules
 keep-outs-holds : tie.Need-keep-outs-init invariant-keep-outs decreases-keep-outs invariant-points decreases-points
 keep-outs-holds c =
     let h = c.before.before.before.before.points.invariant in
-    (omega arith, covered-are _ _ _ _ _ h.2)
+    (omega arith, covered_are _ _ _ _ _ h.2)
 
 keep-out-at-requires : tie.Need-keep-out-at-requires invariant-keep-outs decreases-keep-outs invariant-points decreases-points
 keep-out-at-requires c κs = search rules
@@ -95,10 +95,10 @@ returns-2 c =
     let inside = turn.before.before in
     let point = inside.before.before in
     let way = point.before.before.points in
-    let hit = h.1 ∙ covered-here _ _ _ _ _ turn.keep-outs-test.true (covered _ _ _ _ _ c.before.covers.ensures c.before.before.keep-out-at.ensures c.if3.true) in
+    let hit = h.1 ∙ covered_here _ _ _ _ _ turn.keep-outs-test.true (covered _ _ _ _ _ c.before.covers.ensures c.before.before.keep-out-at.ensures c.if3.true) in
     sym
     (way.invariant.3
-    ∙ point-hit _ _ _ _ _ _ _ _ point.before.points-test.true point.point.ensures (sym inside.before.within.ensures ∙ inside.if2.true) hit)
+    ∙ point_hit _ _ _ _ _ _ _ _ point.before.points-test.true point.point.ensures (sym inside.before.within.ensures ∙ inside.if2.true) hit)
 
 add-j : tie.Need-overflow-add-j invariant-keep-outs decreases-keep-outs invariant-points decreases-points
 add-j c = omega arith
@@ -110,13 +110,13 @@ keep-outs-again : tie.Need-keep-outs-preserved invariant-keep-outs decreases-kee
 keep-outs-again c =
     let turn = c.before.before.before in
     let h = turn.before.keep-outs.invariant in
-    (omega arith, h.1 ∙ covered-later _ _ _ _ _ turn.keep-outs-test.true (covered _ _ _ _ _ c.before.covers.ensures c.before.before.keep-out-at.ensures c.if3.false))
+    (omega arith, h.1 ∙ covered_later _ _ _ _ _ turn.keep-outs-test.true (covered _ _ _ _ _ c.before.covers.ensures c.before.before.keep-out-at.ensures c.if3.false))
 
 returns-3 : tie.Need-returns-3 invariant-keep-outs decreases-keep-outs invariant-points decreases-points
 returns-3 c =
     let point = c.before.before in
     let way = point.before.before.points in
-    sym (way.invariant.3 ∙ point-out _ _ _ _ _ _ _ _ point.before.points-test.true point.point.ensures (sym c.before.within.ensures ∙ c.if2.false))
+    sym (way.invariant.3 ∙ point_out _ _ _ _ _ _ _ _ point.before.points-test.true point.point.ensures (sym c.before.within.ensures ∙ c.if2.false))
 
 add-i : tie.Need-overflow-add-i invariant-keep-outs decreases-keep-outs invariant-points decreases-points
 add-i c = omega arith
@@ -134,7 +134,7 @@ points-again c =
       way.invariant.1,
       way.invariant.2,
       way.invariant.3
-          ∙ point-free _ _ _ _ _ _ _ _ point.before.points-test.true point.point.ensures (sym inside.before.within.ensures ∙ inside.if2.true) free,
+          ∙ point_free _ _ _ _ _ _ _ _ point.before.points-test.true point.point.ensures (sym inside.before.within.ensures ∙ inside.if2.true) free,
     )
 
 returns-4 : tie.Need-returns-4 invariant-keep-outs decreases-keep-outs invariant-points decreases-points

@@ -3,8 +3,8 @@ use mathlib.Core.List.{[], ◌∷◌}
 use mathlib.Core.Path.{refl}
 use borrow.Author.Rules.{rules}
 use Rattle.grammar.specs.declared.Verb.TheVariants.{Keepout, Solve, Construct, Goals, Query, Tables, Distance, Between, Steer, Valid, Steps, Motion, Other}
-use Rattle.grammar.proofs.Others.{none-for}
-use Rattle.mount_calls.specs.Kept.{mountCall, call_of}
+use Rattle.grammar.proofs.Others.{none_for}
+use Rattle.mount_calls.specs.Kept.{mount_call, call_of}
 use Rattle.mount_calls.proofs.outcome.Statement.{statement}
 use Rattle.mount_calls.proofs.outcome.Tie as tie
 
@@ -18,13 +18,13 @@ leaf-requires : tie.Need-leaf-requires
 leaf-requires c κs = search rules
 
 returns : tie.Need-returns
-unfolding call_of mountCall
+unfolding call_of mount_call
 returns c = rw c.before.enum_told.given.1 c.setup.ensures
 
 returns-2 : tie.Need-returns-2
-unfolding call_of mountCall
+unfolding call_of mount_call
 returns-2 c =
-    none-for _ (mountCall _ _) c.before.before.before.args.verb
+    none_for _ (mount_call _ _) c.before.before.before.args.verb
     (Keepout ∷ Solve ∷ Construct ∷ Goals ∷ Query ∷ Tables ∷ Distance ∷ Between ∷ Steer ∷ Valid ∷ Steps ∷ Motion ∷ Other ∷ [])
     refl
     c.before.match.keys2

@@ -1,5 +1,5 @@
 -- `nearest::lowest` meets its contract.
-use Rattle.nearest.proofs.Blocks.{eight-calls}
+use Rattle.nearest.proofs.Blocks.{eight_calls}
 use borrow.Author.Rules.{rules}
 use Rattle.nearest.proofs.lowest.Statement.{statement}
 use Rattle.nearest.proofs.lowest.Tie as tie
@@ -72,7 +72,7 @@ less-requires-7 c κs = search rules
 
 returns : tie.Need-returns
 returns c =
-    eight-calls _ _ _ _ _ _ _ _ _ _ _ _ _
+    eight_calls _ _ _ _ _ _ _ _ _ _ _ _ _
     c.before.before.before.before.before.before.before.before.before.before.before.before.before.before.at.ensures
     c.before.before.before.before.before.before.before.before.before.before.before.before.before.at2.ensures
     c.before.before.before.before.before.before.before.before.before.before.before.before.at3.ensures

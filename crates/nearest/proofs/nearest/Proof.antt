@@ -3,36 +3,36 @@ use mathlib.Core.Logic.{⊎_elim}
 use mathlib.Core.Path.{◌≡◌, sym, ◌∙◌}
 use native.Mathlib.Omega.{arith}
 use Prim.Native.Nat.{◌≤◌, ◌-◌, ◌+◌, min}
-use Rattle.tree.specs.Table.{statesOf}
-use Rattle.nearest.specs.Nearest.{farOf, nearestOf}
+use Rattle.tree.specs.Table.{states_of}
+use Rattle.nearest.specs.Nearest.{far_of, nearest_of}
 use Rattle.nearest.proofs.Nearer.{next, last, nowhere, took, kept}
-use Rattle.nearest.proofs.Blocks.{Held, held_first, held_kept, held-won, held-as, held_on, held-here, searchAt}
+use Rattle.nearest.proofs.Blocks.{Held, held_first, held_kept, held_won, held_as, held_on, held_here, search_at}
 use Rattle.nearest.proofs.nearest.Statement.{statement}
 use Rattle.nearest.proofs.nearest.Tie as tie
 
 abbrev invariant-eights : tie.invariant-eights
 invariant-eights az el feed n s count block₀ least₀ i₀ block least i =
-    (i ≤ count) × (count ≡ min n 512) × Held az el feed s count block least i (nearestOf (statesOf n az el feed) s)
+    (i ≤ count) × (count ≡ min n 512) × Held az el feed s count block least i (nearest_of (states_of n az el feed) s)
 
 abbrev decreases-eights : tie.decreases-eights
 decreases-eights az el feed n s count block₀ least₀ i₀ block least i = count - i
 
 abbrev invariant-first : tie.invariant-first
 invariant-first az el feed n s count block least i best₀ far₀ best far =
-    (i ≤ count) × (count ≡ min n 512) × (far ≡ farOf az el feed s best) × Held az el feed s count best least i (nearestOf (statesOf n az el feed) s)
+    (i ≤ count) × (count ≡ min n 512) × (far ≡ far_of az el feed s best) × Held az el feed s count best least i (nearest_of (states_of n az el feed) s)
 
 abbrev decreases-first : tie.decreases-first
 decreases-first az el feed n s count block least i best₀ far₀ best far = count - best
 
 abbrev invariant-nodes : tie.invariant-nodes
 invariant-nodes az el feed n s count block least i₀ best₀ far₀ i best far =
-    (i ≤ count) × (count ≤ 512) × (nearestOf (statesOf n az el feed) s ≡ searchAt az el feed s count (record { index = best; far = far }) i)
+    (i ≤ count) × (count ≤ 512) × (nearest_of (states_of n az el feed) s ≡ search_at az el feed s count (record { index = best; far = far }) i)
 
 abbrev decreases-nodes : tie.decreases-nodes
 decreases-nodes az el feed n s count block least i₀ best₀ far₀ i best far = count - i
 
 returns : tie.Need-returns invariant-eights decreases-eights invariant-first decreases-first invariant-nodes decreases-nodes
-unfolding nearestOf
+unfolding nearest_of
 returns c = sym (nowhere _ _ _ _ 0 _ c.if1.true)
 
 at-requires : tie.Need-at-requires invariant-eights decreases-eights invariant-first decreases-first invariant-nodes decreases-nodes
@@ -62,8 +62,8 @@ eights-again c =
     let room : h.i + 8 ≤ c.before.before.before.before.before.if2.count = omega arith in (
       room,
       h.invariant.1,
-      ⊎_elim (λ w. held-as _ _ _ _ _ _ _ _ _ (held-won _ _ _ _ _ _ _ _ _ h.invariant.2 _ low room w.0.taken) _ _ w.1 w.2)
-          (λ w. held-as _ _ _ _ _ _ _ _ _ (held_kept _ _ _ _ _ _ _ _ _ h.invariant.2 _ low room w.0.left) _ _ w.1 w.2) c.if3.branch,
+      ⊎_elim (λ w. held_as _ _ _ _ _ _ _ _ _ (held_won _ _ _ _ _ _ _ _ _ h.invariant.2 _ low room w.0.taken) _ _ w.1 w.2)
+          (λ w. held_as _ _ _ _ _ _ _ _ _ (held_kept _ _ _ _ _ _ _ _ _ h.invariant.2 _ low room w.0.left) _ _ w.1 w.2) c.if3.branch,
     )
 
 at-requires-2 : tie.Need-at-requires-2 invariant-eights decreases-eights invariant-first decreases-first invariant-nodes decreases-nodes
@@ -85,7 +85,7 @@ first-again : tie.Need-first-preserved invariant-eights decreases-eights invaria
 first-again c = let h = c.before.before.first.invariant in (h.0, h.1, c.at3.ensures, held_on _ _ _ _ _ _ _ _ _ h.3 _ h.2 c.before.first-test.true)
 
 nodes-holds : tie.Need-nodes-init invariant-eights decreases-eights invariant-first decreases-first invariant-nodes decreases-nodes
-nodes-holds c = let h = c.before.first.invariant in (h.0, omega arith, held-here _ _ _ _ _ _ _ _ _ h.3 _ h.2 c.first-test.false)
+nodes-holds c = let h = c.before.first.invariant in (h.0, omega arith, held_here _ _ _ _ _ _ _ _ _ h.3 _ h.2 c.first-test.false)
 
 at-requires-4 : tie.Need-at-requires-4 invariant-eights decreases-eights invariant-first decreases-first invariant-nodes decreases-nodes
 at-requires-4 c κs = omega arith

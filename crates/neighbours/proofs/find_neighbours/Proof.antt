@@ -3,7 +3,7 @@ use Prim.Native.Nat.{◌-◌}
 use mathlib.Core.Logic.{⊎_elim}
 use native.Mathlib.Omega.{arith}
 use borrow.Author.Rules.{rules}
-use Rattle.neighbours.proofs.Finds.{Finding, finds-first, finds-one, finds-none, finds-all}
+use Rattle.neighbours.proofs.Finds.{Finding, finds_first, finds_one, finds_none, finds_all}
 use Rattle.neighbours.proofs.find_neighbours.Statement.{statement}
 use Rattle.neighbours.proofs.find_neighbours.Tie as tie
 
@@ -14,7 +14,7 @@ abbrev decreases-nodes : tie.decreases-nodes
 decreases-nodes az el feed n new radius found₀ many₀ i₀ found many i = n - i
 
 nodes-holds : tie.Need-nodes-init invariant-nodes decreases-nodes
-nodes-holds c = finds-first _ _ _ _ _ _ _ c.requires.0 c.requires.1
+nodes-holds c = finds_first _ _ _ _ _ _ _ c.requires.0 c.requires.1
 
 mul-if1 : tie.Need-overflow-mul-if1 invariant-nodes decreases-nodes
 mul-if1 c = omega arith
@@ -58,11 +58,11 @@ nodes-again c =
     let room = turn.before.before.requires.0 in
     let h = turn.before.nodes.invariant in
     let far = c.before.distance.ensures in
-    ⊎_elim (λ w. finds-one h room turn.nodes-test.true far w.0.taken w.1 w.2)
-    (λ w. finds-none h room turn.nodes-test.true far w.0.left w.1 w.2) c.if1.branch
+    ⊎_elim (λ w. finds_one h room turn.nodes-test.true far w.0.taken w.1 w.2)
+    (λ w. finds_none h room turn.nodes-test.true far w.0.left w.1 w.2) c.if1.branch
 
 returns : tie.Need-returns invariant-nodes decreases-nodes
-returns c = finds-all c.before.nodes.invariant c.nodes-test.false
+returns c = finds_all c.before.nodes.invariant c.nodes-test.false
 
 pub find-neighbours-spec : {M : Type 1} → statement M
 find-neighbours-spec =

@@ -1,7 +1,7 @@
 -- `numeral::decimal` meets its contract: both whole numbers are exact, so the one division rounds the quotient once.
 use native.Mathlib.Omega.{arith}
 use borrow.Author.Rules.{rules}
-use Rattle.numeral.proofs.Cases.{power_small, exact, plain, negated, too-many-digits, too-many-places}
+use Rattle.numeral.proofs.Cases.{power_small, exact, plain, negated, too_many_digits, too_many_places}
 use Rattle.numeral.proofs.decimal.Statement.{statement}
 use Rattle.numeral.proofs.decimal.Tie as tie
 
@@ -21,10 +21,10 @@ returns-2 : tie.Need-returns-2
 returns-2 c = rw c.if3.false (plain _ _ (omega arith) (omega arith) _ c.before.before.power-of-ten.ensures)
 
 returns-3 : tie.Need-returns-3
-returns-3 c = too-many-places _ _ _ (omega arith) (omega arith)
+returns-3 c = too_many_places _ _ _ (omega arith) (omega arith)
 
 returns-4 : tie.Need-returns-4
-returns-4 c = too-many-digits _ _ _ (omega arith)
+returns-4 c = too_many_digits _ _ _ (omega arith)
 
 pub decimal-spec : {M : Type 1} → statement M
 decimal-spec =

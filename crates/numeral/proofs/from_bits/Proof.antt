@@ -2,16 +2,16 @@
 use mathlib.Core.Path.{sym}
 use borrow.Author.Rules.{rules}
 use lib.Ieee.{div, of_bits}
-use Rattle.numeral.proofs.Patterns.{above-is-nan, up-to-is-number}
+use Rattle.numeral.proofs.Patterns.{above_is_nan, up_to_is_number}
 use Rattle.numeral.proofs.from_bits.Statement.{statement}
 use Rattle.numeral.proofs.from_bits.Tie as tie
 
 returns : tie.Need-returns
 unfolding div of_bits
-returns c = sym (above-is-nan _ c.if1.true)
+returns c = sym (above_is_nan _ c.if1.true)
 
 float-from-bits-result : tie.Need-float-from-bits-result
-float-from-bits-result c = up-to-is-number _ c.if1.false
+float-from-bits-result c = up_to_is_number _ c.if1.false
 
 returns-2 : tie.Need-returns-2
 returns-2 c = search rules

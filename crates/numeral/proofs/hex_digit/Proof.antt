@@ -1,7 +1,7 @@
 -- `numeral::hex_digit` meets its contract: the arms are the cases of the definition.
 use borrow.Author.Rules.{rules}
 use native.Mathlib.Omega.{arith}
-use Rattle.numeral.proofs.Bands.{number, letter, before-numbers, before-letters, past-letters}
+use Rattle.numeral.proofs.Bands.{number, letter, before_numbers, before_letters, past_letters}
 use Rattle.numeral.proofs.hex_digit.Statement.{statement}
 use Rattle.numeral.proofs.hex_digit.Tie as tie
 
@@ -21,13 +21,13 @@ returns-2 : tie.Need-returns-2
 returns-2 c = letter _ (omega arith) (omega arith)
 
 returns-3 : tie.Need-returns-3
-returns-3 c = before-numbers _ (omega arith)
+returns-3 c = before_numbers _ (omega arith)
 
 returns-4 : tie.Need-returns-4
-returns-4 c = before-letters _ (omega arith) (omega arith)
+returns-4 c = before_letters _ (omega arith) (omega arith)
 
 returns-5 : tie.Need-returns-5
-returns-5 c = past-letters _ (omega arith)
+returns-5 c = past_letters _ (omega arith)
 
 pub hex-digit-spec : {M : Type 1} → statement M
 hex-digit-spec =

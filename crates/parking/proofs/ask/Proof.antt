@@ -4,22 +4,22 @@ use mathlib.Core.Path.{◌≡◌, refl}
 use native.Mathlib.Omega.{arith}
 use lib.ListN.{length}
 use borrow.Author.Rules.{rules}
-use Rattle.prm.specs.Planner.{plannerOf}
-use Rattle.prm.specs.Query.{queriedOf}
-use Rattle.parking.specs.Chart.{queriesOf}
-use Rattle.parking.proofs.Charting.{query-more}
+use Rattle.prm.specs.Planner.{planner_of}
+use Rattle.prm.specs.Query.{queried_of}
+use Rattle.parking.specs.Chart.{queries_of}
+use Rattle.parking.proofs.Charting.{query_more}
 use Rattle.parking.proofs.ask.Statement.{statement}
 use Rattle.parking.proofs.ask.Tie as tie
 
 abbrev invariant-queries : tie.invariant-queries
 invariant-queries planner queries route₀ last₀ i₀ route last i =
-    (length route ≡ length route₀) × (i ≤ queries) × (queriedOf last route ≡ queriesOf (plannerOf planner) i (queriedOf last₀ route₀))
+    (length route ≡ length route₀) × (i ≤ queries) × (queried_of last route ≡ queries_of (planner_of planner) i (queried_of last₀ route₀))
 
 abbrev decreases-queries : tie.decreases-queries
 decreases-queries planner queries route₀ last₀ i₀ route last i = queries - i
 
 queries-holds : tie.Need-queries-init invariant-queries decreases-queries
-unfolding queriesOf
+unfolding queries_of
 queries-holds c = (refl, omega arith, refl)
 
 query-requires : tie.Need-query-requires invariant-queries decreases-queries
@@ -36,7 +36,7 @@ queries-again c =
     let query = c.before.before in
     let turn = query.before.before.before in
     let h = turn.queries.invariant in
-    (search rules, omega arith, query-more _ _ _ (queriedOf turn.queries.new _) _ h.2 query.query.ensures)
+    (search rules, omega arith, query_more _ _ _ (queried_of turn.queries.new _) _ h.2 query.query.ensures)
 
 same_length : tie.Need-same-length invariant-queries decreases-queries
 same_length c = search rules

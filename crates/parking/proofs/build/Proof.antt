@@ -1,8 +1,8 @@
 -- `parking::build` meets its contract.
 use borrow.Author.Rules.{rules}
-use Rattle.prm.specs.Planner.{answeredOf}
-use Rattle.prm.specs.Construct.{constructedOf}
-use Rattle.parking.proofs.Parks.{build-parked, build-refused}
+use Rattle.prm.specs.Planner.{answered_of}
+use Rattle.prm.specs.Construct.{constructed_of}
+use Rattle.parking.proofs.Parks.{build_parked, build_refused}
 use Rattle.parking.proofs.build.Statement.{statement}
 use Rattle.parking.proofs.build.Tie as tie
 
@@ -20,14 +20,14 @@ returns c =
     let parked = c.before in
     let number = parked.before.before in
     let built = number.before.construct-roadmap in
-    build-parked _ _ _ _ _ _ (constructedOf built.result) built.ensures _ number.number.ensures parked.before.if1.true
-    (answeredOf parked.park.result) parked.park.ensures
+    build_parked _ _ _ _ _ _ (constructed_of built.result) built.ensures _ number.number.ensures parked.before.if1.true
+    (answered_of parked.park.result) parked.park.ensures
 
 returns-2 : tie.Need-returns-2
 returns-2 c =
     let number = c.before in
     let built = number.before.construct-roadmap in
-    build-refused _ _ _ _ _ _ (constructedOf built.result) built.ensures _ number.number.ensures c.if1.false
+    build_refused _ _ _ _ _ _ (constructed_of built.result) built.ensures _ number.number.ensures c.if1.false
 
 pub build-spec : {M : Type 1} → statement M
 build-spec =

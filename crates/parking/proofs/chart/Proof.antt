@@ -1,9 +1,9 @@
 -- `parking::chart` meets its contract.
 use borrow.Author.Rules.{rules}
-use Rattle.prm.specs.Construct.{constructedOf}
-use Rattle.prm.specs.Query.{queriedOf}
-use Rattle.parking.specs.Park.{buildOf}
-use Rattle.parking.proofs.Charting.{chart-done, chart-refused}
+use Rattle.prm.specs.Construct.{constructed_of}
+use Rattle.prm.specs.Query.{queried_of}
+use Rattle.parking.specs.Park.{build_of}
+use Rattle.parking.proofs.Charting.{chart_done, chart_refused}
 use Rattle.parking.proofs.chart.Statement.{statement}
 use Rattle.parking.proofs.chart.Tie as tie
 
@@ -25,14 +25,14 @@ returns c =
     let test = asked.before.before in
     let number = test.before in
     let built = number.before.build in
-    chart-done (buildOf _ _ _ _) _ _ _ _ (constructedOf built.result) built.ensures _ number.number.ensures test.if1.true (queriedOf asked.ask.result _)
+    chart_done (build_of _ _ _ _) _ _ _ _ (constructed_of built.result) built.ensures _ number.number.ensures test.if1.true (queried_of asked.ask.result _)
     asked.ask.ensures
 
 returns-2 : tie.Need-returns-2
 returns-2 c =
     let number = c.before in
     let built = number.before.build in
-    chart-refused (buildOf _ _ _ _) _ _ _ _ (constructedOf built.result) built.ensures _ number.number.ensures c.if1.false
+    chart_refused (build_of _ _ _ _) _ _ _ _ (constructed_of built.result) built.ensures _ number.number.ensures c.if1.false
 
 pub chart-spec : {M : Type 1} → statement M
 chart-spec =

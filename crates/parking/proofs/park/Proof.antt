@@ -2,15 +2,15 @@
 use mathlib.Core.Path.{◌≡◌, refl}
 use native.Mathlib.Omega.{arith}
 use borrow.Author.Rules.{rules}
-use Rattle.prm.specs.Planner.{plannerOf, answeredOf}
-use Rattle.parking.specs.Park.{parkOf}
-use Rattle.parking.proofs.Parks.{park-ended, park-full, park-on, park-stopped}
+use Rattle.prm.specs.Planner.{planner_of, answered_of}
+use Rattle.parking.specs.Park.{park_of}
+use Rattle.parking.proofs.Parks.{park_ended, park_full, park_on, park_stopped}
 use Rattle.parking.proofs.park.Statement.{statement}
 use Rattle.parking.proofs.park.Tie as tie
 
 abbrev invariant-rows : tie.invariant-rows
 invariant-rows kinds numbers first added parked₀ j₀ left₀ parked j left =
-    parkOf kinds numbers (plannerOf parked₀) added first ≡ parkOf kinds numbers (plannerOf parked) left j
+    park_of kinds numbers (planner_of parked₀) added first ≡ park_of kinds numbers (planner_of parked) left j
 
 abbrev decreases-rows : tie.decreases-rows
 decreases-rows kinds numbers first added parked₀ j₀ left₀ parked j left = left
@@ -43,7 +43,7 @@ rows-again c =
     let row = add.before in
     let turn = row.before.before in
     let loop = turn.before in
-    park-on _ _ _ _ _ _ loop.rows.invariant turn.rows-test.true row.before.if1.true _ row.keep-out-at.ensures (answeredOf add.add-keep-out.result) add.add-keep-out.ensures
+    park_on _ _ _ _ _ _ loop.rows.invariant turn.rows-test.true row.before.if1.true _ row.keep-out-at.ensures (answered_of add.add-keep-out.result) add.add-keep-out.ensures
     _ number.number.ensures c.before.if2.true
 
 returns : tie.Need-returns invariant-rows decreases-rows
@@ -53,18 +53,18 @@ returns c =
     let row = add.before in
     let turn = row.before.before in
     let loop = turn.before in
-    park-stopped _ _ _ _ _ _ loop.rows.invariant turn.rows-test.true row.before.if1.true _ row.keep-out-at.ensures (answeredOf add.add-keep-out.result) add.add-keep-out.ensures
+    park_stopped _ _ _ _ _ _ loop.rows.invariant turn.rows-test.true row.before.if1.true _ row.keep-out-at.ensures (answered_of add.add-keep-out.result) add.add-keep-out.ensures
     _ number.number.ensures c.if2.false
 
 returns-2 : tie.Need-returns-2 invariant-rows decreases-rows
 returns-2 c =
     let turn = c.before in
-    park-full _ _ _ _ _ _ turn.before.rows.invariant turn.rows-test.true c.if1.false
+    park_full _ _ _ _ _ _ turn.before.rows.invariant turn.rows-test.true c.if1.false
 
 returns-3 : tie.Need-returns-3 invariant-rows decreases-rows
 returns-3 c =
     let loop = c.before in
-    park-ended _ _ _ _ _ _ loop.rows.invariant c.rows-test.false
+    park_ended _ _ _ _ _ _ loop.rows.invariant c.rows-test.false
 
 pub park-spec : {M : Type 1} → statement M
 park-spec =

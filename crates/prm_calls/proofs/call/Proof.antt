@@ -3,8 +3,8 @@ use mathlib.Core.List.{[], ◌∷◌}
 use mathlib.Core.Path.{refl}
 use borrow.Author.Rules.{rules}
 use Rattle.grammar.specs.declared.Verb.TheVariants.{Solve, Distance, Between, Steer, Valid, Steps, Motion, Other}
-use Rattle.grammar.specs.Calls.{noCall, prmCall}
-use Rattle.grammar.proofs.Others.{none-for}
+use Rattle.grammar.specs.Calls.{no_call, prm_call}
+use Rattle.grammar.proofs.Others.{none_for}
 use Rattle.prm_calls.specs.Left.{call_of}
 use Rattle.prm_calls.proofs.call.Statement.{statement}
 use Rattle.prm_calls.proofs.call.Tie as tie
@@ -49,7 +49,7 @@ same_length : tie.Need-same-length
 same_length c = search rules
 
 returns : tie.Need-returns
-unfolding call_of prmCall
+unfolding call_of prm_call
 returns c =
     let made = c.before.before in
     rw (made.before.before.before.enum_told.given.1, made.setup.ensures)
@@ -58,7 +58,7 @@ same-length-2 : tie.Need-same-length-2
 same-length-2 c = search rules
 
 returns-2 : tie.Need-returns-2
-unfolding call_of prmCall
+unfolding call_of prm_call
 returns-2 c =
     let made = c.before.before in
     rw (made.before.before.before.enum-told2.given.1, made.keepout.ensures)
@@ -67,7 +67,7 @@ same-length-3 : tie.Need-same-length-3
 same-length-3 c = search rules
 
 returns-3 : tie.Need-returns-3
-unfolding call_of prmCall
+unfolding call_of prm_call
 returns-3 c =
     let made = c.before.before in
     rw (made.before.before.enum-told3.given.1, made.construct.ensures)
@@ -76,7 +76,7 @@ same-length-4 : tie.Need-same-length-4
 same-length-4 c = search rules
 
 returns-4 : tie.Need-returns-4
-unfolding call_of prmCall
+unfolding call_of prm_call
 returns-4 c =
     let made = c.before.before in
     rw (made.before.before.enum-told4.given.1, made.goals.ensures)
@@ -85,20 +85,20 @@ same-length-5 : tie.Need-same-length-5
 same-length-5 c = search rules
 
 returns-5 : tie.Need-returns-5
-unfolding call_of prmCall
+unfolding call_of prm_call
 returns-5 c = rw c.before.before.before.before.enum-told5.given.1
 
 same-length-6 : tie.Need-same-length-6
 same-length-6 c = search rules
 
 returns-6 : tie.Need-returns-6
-unfolding call_of prmCall
+unfolding call_of prm_call
 returns-6 c = rw c.before.before.before.before.enum-told6.given.1
 
 returns-7 : tie.Need-returns-7
-unfolding call_of prmCall
+unfolding call_of prm_call
 returns-7 c =
-    none-for (noCall _) (prmCall _ _ _ _ _) c.before.before.before.args.line.verb
+    none_for (no_call _) (prm_call _ _ _ _ _) c.before.before.before.args.line.verb
     (Solve ∷ Distance ∷ Between ∷ Steer ∷ Valid ∷ Steps ∷ Motion ∷ Other ∷ [])
     refl
     c.match.keys7

@@ -2,7 +2,7 @@
 use mathlib.Core.Path.{ap}
 use borrow.Author.Rules.{rules}
 use Rattle.prm.specs.Construct.{Construction}
-use Rattle.prm_calls.specs.Left.{constructFrom}
+use Rattle.prm_calls.specs.Left.{construct_from}
 use Rattle.prm_calls.proofs.construct.Statement.{statement}
 use Rattle.prm_calls.proofs.construct.Tie as tie
 
@@ -16,7 +16,7 @@ same_length : tie.Need-same-length
 same_length c = search rules
 
 returns : tie.Need-returns
-unfolding constructFrom
+unfolding construct_from
 returns c = ap (λ (t : Construction). t.planner) c.before.before.before.before.before.construct-roadmap.ensures
 
 pub construct-spec : {M : Type 1} → statement M

@@ -5,7 +5,7 @@ use borrow.Author.Rules.{rules}
 use Rattle.plan.specs.Setup.{Told}
 use Rattle.roadmap.specs.Map.{Milestone}
 use Rattle.prm.specs.Planner.{Given}
-use Rattle.prm_calls.specs.Left.{goalsFrom}
+use Rattle.prm_calls.specs.Left.{goals_from}
 use Rattle.prm_calls.proofs.goals.Statement.{statement}
 use Rattle.prm_calls.proofs.goals.Tie as tie
 
@@ -25,7 +25,7 @@ same_length : tie.Need-same-length
 same_length c = search rules
 
 returns : tie.Need-returns
-unfolding goalsFrom
+unfolding goals_from
 returns c =
     let made = c.before.before.before.before.before in
     let goal = made.before in

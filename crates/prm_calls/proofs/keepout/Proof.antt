@@ -5,7 +5,7 @@ use borrow.Author.Rules.{rules}
 use Rattle.plan.specs.Setup.{Told}
 use Rattle.roadmap.specs.Map.{Milestone}
 use Rattle.prm.specs.Planner.{Given}
-use Rattle.prm_calls.specs.Left.{keepoutFrom}
+use Rattle.prm_calls.specs.Left.{keepout_from}
 use Rattle.prm_calls.proofs.keepout.Statement.{statement}
 use Rattle.prm_calls.proofs.keepout.Tie as tie
 
@@ -22,7 +22,7 @@ same_length : tie.Need-same-length
 same_length c = search rules
 
 returns : tie.Need-returns
-unfolding keepoutFrom
+unfolding keepout_from
 returns c =
     let made = c.before.before.before.before.before in
     let kept = made.before in

@@ -5,7 +5,7 @@ use borrow.Author.Rules.{rules}
 use Rattle.plan.specs.Setup.{Told}
 use Rattle.roadmap.specs.Map.{Milestone}
 use Rattle.prm.specs.Planner.{Given}
-use Rattle.prm_calls.specs.Left.{setupFrom}
+use Rattle.prm_calls.specs.Left.{setup_from}
 use Rattle.prm_calls.proofs.setup.Statement.{statement}
 use Rattle.prm_calls.proofs.setup.Tie as tie
 
@@ -22,7 +22,7 @@ same_length : tie.Need-same-length
 same_length c = search rules
 
 returns : tie.Need-returns
-unfolding setupFrom
+unfolding setup_from
 returns c =
     let made = c.before.before.before.before.before in
     let fields = made.before in

@@ -7,17 +7,17 @@ use native.Mathlib.Omega.{arith}
 use borrow.Author.Rules.{rules}
 use lib.Dec.{ltb}
 use lib.ListN.{get_or}
-use Rattle.legs.specs.Bits.{legAt}
+use Rattle.legs.specs.Bits.{leg_at}
 use Rattle.state.specs.Rows.{row_at}
 use Rattle.roadmap.specs.View.{Joins}
-use Rattle.prune.specs.Hit.{hitOf}
-use Rattle.prune.proofs.Stood.{kept-none, kept-all, kept-hit, kept-gone-end, kept_free, joins-same, joins-more, joins-unset}
+use Rattle.prune.specs.Hit.{hit_of}
+use Rattle.prune.proofs.Stood.{kept_none, kept_all, kept_hit, kept_gone_end, kept_free, joins_same, joins_more, joins_unset}
 use Rattle.prune.proofs.keep_legs.Statement.{statement}
 use Rattle.prune.proofs.keep_legs.Tie as tie
 
 abbrev invariant-stood : tie.invariant-stood
 invariant-stood k segment new az el feed was i old at n legs₀ o₀ legs o =
-    (o ≤ 256) × (o < 256 → legAt was i o ≡ true) × Joins legs₀ n n (λ (j : ℕ). ltb (get_or old j 0) o && (legAt was i (get_or old j 0) && not (hitOf segment k new (row_at az el feed (get_or old j 0))))) legs
+    (o ≤ 256) × (o < 256 → leg_at was i o ≡ true) × Joins legs₀ n n (λ (j : ℕ). ltb (get_or old j 0) o && (leg_at was i (get_or old j 0) && not (hit_of segment k new (row_at az el feed (get_or old j 0))))) legs
 
 abbrev decreases-stood : tie.decreases-stood
 decreases-stood k segment new az el feed was i old at n legs₀ o₀ legs o = 256 - o
@@ -25,10 +25,10 @@ decreases-stood k segment new az el feed was i old at n legs₀ o₀ legs o = 25
 -- the legs that stood, and which of them are hit, by the former number
 module _ (s : tie.Start invariant-stood decreases-stood) where
   abbrev row : ℕ → Bool
-  row = legAt s.args.was.now s.args.i
+  row = leg_at s.args.was.now s.args.i
 
   abbrev hit : ℕ → Bool
-  hit x = hitOf s.args.segment s.args.k s.args.new (row_at s.args.az.now s.args.el.now s.args.feed.now x)
+  hit x = hit_of s.args.segment s.args.k s.args.new (row_at s.args.az.now s.args.el.now s.args.feed.now x)
 
 next-requires : tie.Need-next-requires invariant-stood decreases-stood
 next-requires c κs = (omega arith, omega arith)
@@ -39,7 +39,7 @@ stood-holds c =
     let next = c.next.ensures in (
       next.within,
       next.here,
-      joins-unset _ _ _ (kept-none (row s) (hit s) _ _ _ _ s.requires.3 _ next),
+      joins_unset _ _ _ (kept_none (row s) (hit s) _ _ _ _ s.requires.3 _ next),
     )
 
 mul-j : tie.Need-overflow-mul-j invariant-stood decreases-stood
@@ -96,19 +96,19 @@ stood-again c =
       next.within,
       next.here,
       ⊎_elim
-          (λ w. rw w.6 (joins-same _ _ _ _ _ so_far (kept-hit (row s) (hit s) _ _ _ _ s.requires.3 _ _ turn.stood-test.true stands next (sym w.4.ensures ∙ w.5.taken))))
+          (λ w. rw w.6 (joins_same _ _ _ _ _ so_far (kept_hit (row s) (hit s) _ _ _ _ s.requires.3 _ _ turn.stood-test.true stands next (sym w.4.ensures ∙ w.5.taken))))
           (λ w.
           ⊎_elim
-          (λ v. rw v.8 (joins-more _ _ _ _ _ _ _ so_far v.7.ensures v.0.taken (kept_free (row s) (hit s) _ _ _ _ s.requires.3 _ _ turn.stood-test.true stands next v.0.taken (sym v.4.ensures ∙ v.5.left))))
-          (λ v. rw v.1 (joins-same _ _ _ _ _ so_far (kept-gone-end (row s) (hit s) _ _ _ _ s.requires.3 _ _ turn.stood-test.true stands next v.0.left))) w) c.before.if1.branch,
+          (λ v. rw v.8 (joins_more _ _ _ _ _ _ _ so_far v.7.ensures v.0.taken (kept_free (row s) (hit s) _ _ _ _ s.requires.3 _ _ turn.stood-test.true stands next v.0.taken (sym v.4.ensures ∙ v.5.left))))
+          (λ v. rw v.1 (joins_same _ _ _ _ _ so_far (kept_gone_end (row s) (hit s) _ _ _ _ s.requires.3 _ _ turn.stood-test.true stands next v.0.left))) w) c.before.if1.branch,
     )
 
 returns : tie.Need-returns invariant-stood decreases-stood
 returns c =
     let h = c.before.stood in
     let s = c.before.before.before in
-    joins-same _ _ _ _ _ h.invariant.2
-    (kept-all (row s) (hit s) _ _ _ _ s.requires.3 h.o c.stood-test.false)
+    joins_same _ _ _ _ _ h.invariant.2
+    (kept_all (row s) (hit s) _ _ _ _ s.requires.3 h.o c.stood-test.false)
 
 pub keep-legs-spec : {M : Type 1} → statement M
 keep-legs-spec =

@@ -4,9 +4,9 @@ use mathlib.Core.Logic.{⊎_elim}
 use mathlib.Core.Path.{◌≡◌, refl, sym, ◌∙◌, ap}
 use native.Mathlib.Omega.{arith}
 use borrow.Author.Rules.{rules}
-use Rattle.roadmap.specs.View.{view_of, milestonesOf}
-use Rattle.roadmap.proofs.View.{view-long}
-use Rattle.prune.proofs.Pruning.{Pruning, prune-starts, prune-gone, prune-kept, prune-ends}
+use Rattle.roadmap.specs.View.{view_of, milestones_of}
+use Rattle.roadmap.proofs.View.{view_long}
+use Rattle.prune.proofs.Pruning.{Pruning, prune_starts, prune_gone, prune_kept, prune_ends}
 use Rattle.prune.proofs.pruned.Statement.{statement}
 use Rattle.prune.proofs.pruned.Tie as tie
 
@@ -35,10 +35,10 @@ size-requires : tie.Need-size-requires invariant-milestones decreases-milestones
 size-requires c κs = search rules
 
 milestones-holds : tie.Need-milestones-init invariant-milestones decreases-milestones
-unfolding milestonesOf
+unfolding milestones_of
 milestones-holds c =
-    let most : c.size.result ≡ min c.before.args.t1.count 256 = c.size.ensures ∙ view-long _ _ _ _ _ in
-    (most, prune-starts _ _ _ _ _ _ _ refl refl refl refl)
+    let most : c.size.result ≡ min c.before.args.t1.count 256 = c.size.ensures ∙ view_long _ _ _ _ _ in
+    (most, prune_starts _ _ _ _ _ _ _ refl refl refl refl)
 
 mul-t17 : tie.Need-overflow-mul-t17 invariant-milestones decreases-milestones
 mul-t17 c = omega (arith, inside c)
@@ -65,7 +65,7 @@ keep-legs-requires : tie.Need-keep-legs-requires invariant-milestones decreases-
 keep-legs-requires c κs =
     let turn = c.before.before.before.before.before.before.before.before.before.before.before.before.before in
     let h = turn.before.milestones.invariant.1 in
-    (inside turn, room turn, h.legs-sized, h.table)
+    (inside turn, room turn, h.legs_sized, h.table)
 
 -- the turn in which the legs were kept
 abbrev after : tie.After-keep-legs invariant-milestones decreases-milestones → tie.In-milestones invariant-milestones decreases-milestones
@@ -117,16 +117,16 @@ milestones-again c =
     let tested = c.before.covers.ensures in (
       h.0,
       ⊎_elim
-          (λ w. prune-gone h.1 (more turn) (sym tested ∙ w.0.taken) w.1 w.2 w.3 w.4 w.5 w.6 w.7)
-          (λ w. prune-kept h.1 (more turn) (sym tested ∙ w.0.left) (rw w.13 w.9.ensures) w.10 w.11 w.12 w.14 w.15 w.16) c.if1.branch,
+          (λ w. prune_gone h.1 (more turn) (sym tested ∙ w.0.taken) w.1 w.2 w.3 w.4 w.5 w.6 w.7)
+          (λ w. prune_kept h.1 (more turn) (sym tested ∙ w.0.left) (rw w.13 w.9.ensures) w.10 w.11 w.12 w.14 w.15 w.16) c.if1.branch,
     )
 
 returns : tie.Need-returns invariant-milestones decreases-milestones
-unfolding milestonesOf
+unfolding milestones_of
 returns c =
     let h = c.before.milestones in
     let full : min h.count 256 ≡ h.count = omega (arith, h.invariant.0, h.invariant.1.few, h.invariant.1.within) in
-    ap (view_of h.az h.el h.feed h.legs) full ∙ prune-ends h.invariant.1 (omega (arith, h.invariant.0, c.milestones-test.false))
+    ap (view_of h.az h.el h.feed h.legs) full ∙ prune_ends h.invariant.1 (omega (arith, h.invariant.0, c.milestones-test.false))
 
 pub pruned-spec : {M : Type 1} → statement M
 pruned-spec =

@@ -2,7 +2,7 @@
 use Prim.Native.Nat.{◌<◌}
 use native.Mathlib.Omega.{arith}
 use borrow.Author.Rules.{rules}
-use Rattle.queue.proofs.Queues.{room, push-held, push-new}
+use Rattle.queue.proofs.Queues.{room, push_held, push_new}
 use Rattle.queue.proofs.push.Statement.{statement}
 use Rattle.queue.proofs.push.Tie as tie
 
@@ -37,12 +37,12 @@ add-result : tie.Need-overflow-add-result
 add-result c = omega (arith, roomy c.before.before)
 
 returns : tie.Need-returns
-returns c = push-held _ _ _ _ _ _ _ _ c.before.before.requires.0 (small c.before.before) c.before.before.requires.2 c.if1.true
+returns c = push_held _ _ _ _ _ _ _ _ c.before.before.requires.0 (small c.before.before) c.before.before.requires.2 c.if1.true
 
 returns-2 : tie.Need-returns-2
 returns-2 c =
     let s = c.before.before.before.before in
-    push-new _ _ _ _ _ _ _ _ s.requires.0 (small s) s.requires.2 c.before.before.if1.false _ c.mark.ensures
+    push_new _ _ _ _ _ _ _ _ s.requires.0 (small s) s.requires.2 c.before.before.if1.false _ c.mark.ensures
 
 pub push_spec : {M : Type 1} → statement M
 push_spec =

@@ -4,14 +4,14 @@ use mathlib.Core.Bool.{true, and-eq-true_iff}
 use mathlib.Core.Path.{◌≡◌}
 use native.Mathlib.Omega.{arith}
 use borrow.Author.Rules.{rules}
-use Rattle.legs.specs.Bits.{legAt, unseenAt}
-use Rattle.queue.proofs.Pushing.{Pushing, pushing-starts, pushing-took, pushing-next, pushing-ends}
+use Rattle.legs.specs.Bits.{leg_at, unseen_at}
+use Rattle.queue.proofs.Pushing.{Pushing, pushing_starts, pushing_took, pushing_next, pushing_ends}
 use Rattle.queue.proofs.spread.Statement.{statement}
 use Rattle.queue.proofs.spread.Tie as tie
 
 abbrev invariant-neighbours : tie.invariant-neighbours
 invariant-neighbours legs u count marks₀ seen₀ order₀ from₀ held f n₀ v₀ marks seen order from n v =
-    Pushing (legAt legs u) count f order₀ from₀ held v marks seen order from n × (v ≤ 256) × (v < 256 → legAt legs u v ≡ true)
+    Pushing (leg_at legs u) count f order₀ from₀ held v marks seen order from n × (v ≤ 256) × (v < 256 → leg_at legs u v ≡ true)
 
 abbrev decreases-neighbours : tie.decreases-neighbours
 decreases-neighbours legs u count marks₀ seen₀ order₀ from₀ held f n₀ v₀ marks seen order from n v = 256 - v
@@ -20,10 +20,10 @@ next-unseen-requires : tie.Need-next-unseen-requires invariant-neighbours decrea
 next-unseen-requires c κs = search rules
 
 neighbours-holds : tie.Need-neighbours-init invariant-neighbours decreases-neighbours
-unfolding unseenAt
+unfolding unseen_at
 neighbours-holds c =
     let first = c.next-unseen.ensures in
-    (pushing-next (pushing-starts _ _ _ _ _ _ _ _ c.before.before.requires.2) first, first.within, λ h. ((and-eq-true_iff _ _).0 (first.here h)).0)
+    (pushing_next (pushing_starts _ _ _ _ _ _ _ _ c.before.before.requires.2) first, first.within, λ h. ((and-eq-true_iff _ _).0 (first.here h)).0)
 
 push-requires : tie.Need-push-requires invariant-neighbours decreases-neighbours
 push-requires c κs =
@@ -40,18 +40,18 @@ neighbours-less : tie.Need-neighbours-smaller invariant-neighbours decreases-nei
 neighbours-less c = omega (arith, c.next-unseen2.ensures.onward)
 
 neighbours-again : tie.Need-neighbours-preserved invariant-neighbours decreases-neighbours
-unfolding unseenAt
+unfolding unseen_at
 neighbours-again c =
     let turn = c.before.before.before.before.before.before.before in
     let h = turn.before.neighbours in
     let following = c.next-unseen2.ensures in (
-      pushing-next (pushing-took h.invariant.0 turn.neighbours-test.true (h.invariant.2 (omega arith)) c.before.before.push.ensures) following,
+      pushing_next (pushing_took h.invariant.0 turn.neighbours-test.true (h.invariant.2 (omega arith)) c.before.before.push.ensures) following,
       following.within,
       λ k. ((and-eq-true_iff _ _).0 (following.here k)).0,
     )
 
 returns : tie.Need-returns invariant-neighbours decreases-neighbours
-returns c = pushing-ends c.before.neighbours.invariant.0 c.neighbours-test.false
+returns c = pushing_ends c.before.neighbours.invariant.0 c.neighbours-test.false
 
 pub spread-spec : {M : Type 1} → statement M
 spread-spec =

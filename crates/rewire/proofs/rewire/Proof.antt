@@ -5,15 +5,15 @@ use mathlib.Core.Path.{refl}
 use native.Mathlib.Omega.{arith}
 use borrow.Author.Rules.{rules}
 use lib.ListN.{length, get_or}
-use Rattle.columns.specs.Columns.{columnsOf}
-use Rattle.rewire.specs.Rewiring.{linksIn}
-use Rattle.rewire.proofs.Moves.{Moving, moves-one, moves-barred, moves-dear, moves-parent, moves-last}
+use Rattle.columns.specs.Columns.{columns_of}
+use Rattle.rewire.specs.Rewiring.{links_in}
+use Rattle.rewire.proofs.Moves.{Moving, moves_one, moves_barred, moves_dear, moves_parent, moves_last}
 use Rattle.rewire.proofs.rewire.Statement.{statement}
 use Rattle.rewire.proofs.rewire.Tie as tie
 
 abbrev invariant-neighbours : tie.invariant-neighbours
 invariant-neighbours az el feed parent₀ cost₀ n found many limits segment kinds numbers keep-outs new choice k₀ parent cost k =
-    Moving limits segment (columnsOf kinds numbers keep-outs) az el feed n new choice many found (linksIn (n + 1) parent₀ cost₀) k parent cost
+    Moving limits segment (columns_of kinds numbers keep-outs) az el feed n new choice many found (links_in (n + 1) parent₀ cost₀) k parent cost
 
 abbrev decreases-neighbours : tie.decreases-neighbours
 decreases-neighbours az el feed parent₀ cost₀ n found many limits segment kinds numbers keep-outs new choice k₀ parent cost k = many - k
@@ -30,7 +30,7 @@ module _ (c : tie.After-i invariant-neighbours decreases-neighbours) where
   node = start.pre.2 _ turn.neighbours-test.taken
 
 neighbours-holds : tie.Need-neighbours-init invariant-neighbours decreases-neighbours
-neighbours-holds c = record { within = omega arith; parent-sized = c.requires.4; cost-sized = c.requires.5; is = refl }
+neighbours-holds c = record { within = omega arith; parent_sized = c.requires.4; cost_sized = c.requires.5; is = refl }
 
 mul-i : tie.Need-overflow-mul-i invariant-neighbours decreases-neighbours
 mul-i c = omega arith
@@ -94,13 +94,13 @@ neighbours-again c =
     let more = (turn seen).neighbours-test.true in
     let room : s.args.n ≤ 512 = omega (arith, s.pre.0) in
     let long : s.args.many ≤ length s.args.found.now = omega (arith, s.pre.1, s.pre.3) in
-    ⊎_elim (λ w. moves-one h room more long (node seen) w.0.taken w.4.ensures w.8.ensures w.7.taken w.9.taken w.10 w.11)
-    (⊎_elim (λ w. moves-barred h room more long (node seen) w.0.taken w.4.ensures w.8.ensures w.7.taken w.9.left w.10 w.11)
-    (⊎_elim (λ w. moves-dear h room more long (node seen) w.0.taken w.4.ensures w.7.left w.8 w.9)
-    (λ w. moves-parent h room more long (node seen) w.0.left w.1 w.2))) c.if1.branch
+    ⊎_elim (λ w. moves_one h room more long (node seen) w.0.taken w.4.ensures w.8.ensures w.7.taken w.9.taken w.10 w.11)
+    (⊎_elim (λ w. moves_barred h room more long (node seen) w.0.taken w.4.ensures w.8.ensures w.7.taken w.9.left w.10 w.11)
+    (⊎_elim (λ w. moves_dear h room more long (node seen) w.0.taken w.4.ensures w.7.left w.8 w.9)
+    (λ w. moves_parent h room more long (node seen) w.0.left w.1 w.2))) c.if1.branch
 
 returns : tie.Need-returns invariant-neighbours decreases-neighbours
-returns c = moves-last c.before.neighbours.invariant c.neighbours-test.false
+returns c = moves_last c.before.neighbours.invariant c.neighbours-test.false
 
 pub rewire-spec : {M : Type 1} → statement M
 rewire-spec =

@@ -5,43 +5,43 @@ use mathlib.Core.Path.{◌≡◌, refl, sym, ◌∙◌, ap}
 use native.Mathlib.Omega.{arith}
 use lib.ListN.{length, get_or, take, drop, length-append, take-append-drop}
 use Rattle.state.specs.declared.State.{State}
-use Rattle.tree.specs.Table.{Nodes, nodesIn, stateAt, parentAt}
-use Rattle.route.specs.Path.{ancestorsOf, upwardsOf}
-use Rattle.route.specs.Written.{flatOf, put_of}
-use Rattle.route.proofs.Upwards.{placed-behind, up-starts, up_one, up_ends, up-out}
-use Rattle.route.proofs.View.{nodes-many, state-in, parent_in}
+use Rattle.tree.specs.Table.{Nodes, nodes_in, state_at, parent_at}
+use Rattle.route.specs.Path.{ancestors_of, upwards_of}
+use Rattle.route.specs.Written.{flat_of, put_of}
+use Rattle.route.proofs.Upwards.{placed_behind, up_starts, up_one, up_ends, up_out}
+use Rattle.route.proofs.View.{nodes_many, state_in, parent_in}
 use Rattle.route.proofs.append_ancestors.Statement.{statement}
 use Rattle.route.proofs.append_ancestors.Tie as tie
 
 abbrev invariant-up : tie.invariant-up
 invariant-up az el feed parent count node route₀ from at₀ k₀ route at k =
     (at < count) × (k + 1 ≤ count) × (length route ≡ length route₀)
-    × (let nodes = nodesIn count az el feed parent in
-    (done : List State) × (length done ≡ k) × (upwardsOf nodes node ≡ done ++ ancestorsOf (count - 1 - k) nodes at)
-    × (route ≡ take (3 * from) route₀ ++ (flatOf done ++ drop (3 * (from + k)) route₀)))
+    × (let nodes = nodes_in count az el feed parent in
+    (done : List State) × (length done ≡ k) × (upwards_of nodes node ≡ done ++ ancestors_of (count - 1 - k) nodes at)
+    × (route ≡ take (3 * from) route₀ ++ (flat_of done ++ drop (3 * (from + k)) route₀)))
 
 abbrev decreases-up : tie.decreases-up
 decreases-up az el feed parent count node route₀ from at₀ k₀ route at k = count - k
 
 module _ (s : tie.Start invariant-up decreases-up) where
   abbrev nodes : Nodes
-  nodes = nodesIn s.args.count s.args.az.now s.args.el.now s.args.feed.now s.args.parent.now
+  nodes = nodes_in s.args.count s.args.az.now s.args.el.now s.args.feed.now s.args.parent.now
 
   many : length nodes.states ≡ s.args.count
-  many = nodes-many _ _ _ _ _ s.pre.1
+  many = nodes_many _ _ _ _ _ s.pre.1
 
 -- the parent that a turn reads
 up_is :
     (c : tie.In-up invariant-up decreases-up) →
-    parentAt (nodes c.before.before.before) c.before.up.at ≡ get_or c.before.before.before.args.parent.now c.before.up.at 0
+    parent_at (nodes c.before.before.before) c.before.up.at ≡ get_or c.before.before.before.args.parent.now c.before.up.at 0
 up_is c = parent_in _ _ _ _ _ c.before.before.before.requires.1 _ c.before.up.invariant.0
 
 up-holds : tie.Need-up-init invariant-up decreases-up
-unfolding flatOf
+unfolding flat_of
 up-holds c =
     let s = c.before in
     let z : 3 * (s.args.from + 0) ≡ 3 * s.args.from = omega arith in
-    (s.requires.0, omega arith, refl, ([], refl, up-starts (nodes s) _ (many s) _, sym (rw z (take-append-drop (3 * s.args.from) s.args.route.now))))
+    (s.requires.0, omega arith, refl, ([], refl, up_starts (nodes s) _ (many s) _, sym (rw z (take-append-drop (3 * s.args.from) s.args.route.now))))
 
 add-up : tie.Need-overflow-add-up invariant-up decreases-up
 add-up c = omega arith
@@ -95,10 +95,10 @@ up-again c =
     let h = here.invariant in
     let old = s.args.route.now in
     let p = get_or s.args.parent.now here.at 0 in
-    let at_p = state-in s.args.az.now s.args.el.now s.args.feed.now s.args.parent.now _ s.requires.1 p inside.if1.true in
+    let at_p = state_in s.args.az.now s.args.el.now s.args.feed.now s.args.parent.now _ s.requires.1 p inside.if1.true in
     let room : 3 * s.args.from ≤ length old = omega arith in
-    let new = h.3.0 ++ (stateAt (nodes s).states p ∷ []) in
-    let long : length new ≡ here.k + 1 = omega (arith, length-append h.3.0 (stateAt (nodes s).states p ∷ []), h.3.1) in (
+    let new = h.3.0 ++ (state_at (nodes s).states p ∷ []) in
+    let long : length new ≡ here.k + 1 = omega (arith, length-append h.3.0 (state_at (nodes s).states p ∷ []), h.3.1) in (
       inside.if1.true,
       omega arith,
       put.put.auto.0 ∙ h.2,
@@ -107,7 +107,7 @@ up-again c =
         long,
         h.3.2 ∙ up_one (nodes s) s.args.count (many s) here.k here.at p h.3.0 turn.up-test.true (up_is turn) inside.if1.true,
         put.put.ensures ∙ ap (put_of here.route (3 * (s.args.from + here.k))) (sym at_p)
-            ∙ placed-behind old s.args.from here.k (stateAt (nodes s).states p) h.3.0 here.route h.3.1 room h.3.3,
+            ∙ placed_behind old s.args.from here.k (state_at (nodes s).states p) h.3.0 here.route h.3.1 room h.3.3,
       ),
     )
 
@@ -119,11 +119,11 @@ returns c =
     let turn = c.before.before in
     let s = turn.before.before.before in
     let h = turn.before.up.invariant in
-    let past : s.args.count ≤ parentAt (nodes s) turn.before.up.at = omega (arith, up_is turn, c.if1.false) in
+    let past : s.args.count ≤ parent_at (nodes s) turn.before.up.at = omega (arith, up_is turn, c.if1.false) in
     let whole = h.3.2 ∙ up_ends (nodes s) s.args.count (many s) turn.before.up.k turn.before.up.at h.3.0 past in
     record {
       count = sym (ap length whole ∙ h.3.1);
-      memory = h.3.3 ∙ ap (λ (l : List State). take (3 * s.args.from) s.args.route.now ++ (flatOf l ++ drop (3 * (s.args.from + turn.before.up.k)) s.args.route.now)) (sym whole);
+      memory = h.3.3 ∙ ap (λ (l : List State). take (3 * s.args.from) s.args.route.now ++ (flat_of l ++ drop (3 * (s.args.from + turn.before.up.k)) s.args.route.now)) (sym whole);
       few = omega (arith, many s);
     }
 
@@ -135,10 +135,10 @@ returns-2 c =
     let s = c.before.before.before in
     let here = c.before.up in
     let h = here.invariant in
-    let whole = h.3.2 ∙ up-out (nodes s) s.args.count (many s) here.k here.at h.3.0 (omega arith) in
+    let whole = h.3.2 ∙ up_out (nodes s) s.args.count (many s) here.k here.at h.3.0 (omega arith) in
     record {
       count = sym (ap length whole ∙ h.3.1);
-      memory = h.3.3 ∙ ap (λ (l : List State). take (3 * s.args.from) s.args.route.now ++ (flatOf l ++ drop (3 * (s.args.from + here.k)) s.args.route.now)) (sym whole);
+      memory = h.3.3 ∙ ap (λ (l : List State). take (3 * s.args.from) s.args.route.now ++ (flat_of l ++ drop (3 * (s.args.from + here.k)) s.args.route.now)) (sym whole);
       few = omega (arith, many s);
     }
 

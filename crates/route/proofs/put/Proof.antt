@@ -1,5 +1,5 @@
 -- `route::put` meets its contract.
-use Rattle.route.proofs.Stores.{three-set}
+use Rattle.route.proofs.Stores.{three_set}
 use Rattle.route.specs.Written.{put_of}
 use native.Mathlib.Omega.{arith}
 use lib.ListN.{length-set}
@@ -36,7 +36,7 @@ same_length c = search rules
 
 returns : tie.Need-returns
 unfolding put_of
-returns c = three-set c.args.route.now c.args.p _ _ _ c.requires
+returns c = three_set c.args.route.now c.args.p _ _ _ c.requires
 
 pub put_spec : {M : Type 1} → statement M
 put_spec =

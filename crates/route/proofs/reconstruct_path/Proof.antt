@@ -4,28 +4,28 @@ use mathlib.Core.Path.{◌≡◌, refl, sym, ◌∙◌}
 use native.Mathlib.Omega.{arith}
 use borrow.Author.Rules.{rules}
 use lib.ListN.{length}
-use Rattle.tree.specs.Table.{Nodes, nodesIn}
-use Rattle.route.specs.Path.{pathOf}
-use Rattle.route.proofs.Back.{Behind, back-starts, parent-node, back-turn, back-ends}
-use Rattle.route.proofs.View.{nodes-many, state-in, parent_in}
+use Rattle.tree.specs.Table.{Nodes, nodes_in}
+use Rattle.route.specs.Path.{path_of}
+use Rattle.route.proofs.Back.{Behind, back_starts, parent_node, back_turn, back_ends}
+use Rattle.route.proofs.View.{nodes_many, state_in, parent_in}
 use Rattle.route.proofs.reconstruct_path.Statement.{statement}
 use Rattle.route.proofs.reconstruct_path.Tie as tie
 
 abbrev invariant-back : tie.invariant-back
 invariant-back az el feed parent count node route₀ n at₀ left₀ route at left =
     (at < count) × (0 < left) × (left ≤ n) × (length route ≡ length route₀)
-    × (let nodes = nodesIn count az el feed parent in
-    (is : n ≡ length (pathOf nodes node)) × (room : 3 * n ≤ length route₀) × Behind nodes node n is route₀ room at left route)
+    × (let nodes = nodes_in count az el feed parent in
+    (is : n ≡ length (path_of nodes node)) × (room : 3 * n ≤ length route₀) × Behind nodes node n is route₀ room at left route)
 
 abbrev decreases-back : tie.decreases-back
 decreases-back az el feed parent count node route₀ n at₀ left₀ route at left = left
 
 module _ (s : tie.Start invariant-back decreases-back) where
   abbrev nodes : Nodes
-  nodes = nodesIn s.args.count s.args.az.now s.args.el.now s.args.feed.now s.args.parent.now
+  nodes = nodes_in s.args.count s.args.az.now s.args.el.now s.args.feed.now s.args.parent.now
 
   many : length nodes.states ≡ s.args.count
-  many = nodes-many _ _ _ _ _ s.pre.1
+  many = nodes_many _ _ _ _ _ s.pre.1
 
 depth-requires : tie.Need-depth-requires invariant-back decreases-back
 depth-requires c κs = search rules
@@ -35,7 +35,7 @@ back-holds c =
     let start = c.before.before in
     let d = c.depth.ensures in
     let room : 3 * c.depth.result ≤ length start.args.route.now = omega (arith, d.few, many start) in
-    (start.requires.0, d.some, omega arith, refl, (d.is, room, back-starts _ _ _ d.is _ room))
+    (start.requires.0, d.some, omega arith, refl, (d.is, room, back_starts _ _ _ d.is _ room))
 
 sub-left : tie.Need-overflow-sub-left invariant-back decreases-back
 sub-left c = omega arith
@@ -81,14 +81,14 @@ back-again c =
     let here = turn.before.back in
     let h = here.invariant in
     let w = h.4.2 in
-    let is-s = sym (state-in _ _ _ start.args.parent.now _ start.requires.1 _ h.0) in
+    let is-s = sym (state_in _ _ _ start.args.parent.now _ start.requires.1 _ h.0) in
     let is-p = parent_in start.args.az.now start.args.el.now start.args.feed.now start.args.parent.now _ start.requires.1 _ h.0 in
-    let node = parent-node (nodes start) _ _ h.4.0 _ h.4.1 _ _ _ w _ is-s put.put.new.0 turn.back-test.true in (
+    let node = parent_node (nodes start) _ _ h.4.0 _ h.4.1 _ _ _ w _ is-s put.put.new.0 turn.back-test.true in (
       omega (arith, node, is-p, many start),
       omega arith,
       omega arith,
       put.put.auto.0 ∙ h.3,
-      (h.4.0, h.4.1, back-turn (nodes start) _ _ h.4.0 _ h.4.1 _ _ _ w _ is-s _ turn.back-test.true _ is-p put.put.ensures),
+      (h.4.0, h.4.1, back_turn (nodes start) _ _ h.4.0 _ h.4.1 _ _ _ w _ is-s _ turn.back-test.true _ is-p put.put.ensures),
     )
 
 mul-t31 : tie.Need-overflow-mul-t31 invariant-back decreases-back
@@ -123,9 +123,9 @@ returns c =
     let left = put.before.before.before.before.before in
     let start = left.before.before.before.before in
     let h = left.before.back.invariant in
-    let is-s = sym (state-in _ _ _ start.args.parent.now _ start.requires.1 _ h.0) in
+    let is-s = sym (state_in _ _ _ start.args.parent.now _ start.requires.1 _ h.0) in
     let one : left.before.back.left ≡ 1 = omega arith in
-    record { count = h.4.0; memory = back-ends (nodes start) _ _ h.4.0 _ h.4.1 _ _ _ h.4.2 _ is-s _ one put.put2.ensures; few = left.before.before.depth.ensures.few }
+    record { count = h.4.0; memory = back_ends (nodes start) _ _ h.4.0 _ h.4.1 _ _ _ h.4.2 _ is-s _ one put.put2.ensures; few = left.before.before.depth.ensures.few }
 
 pub reconstruct-path-spec : {M : Type 1} → statement M
 reconstruct-path-spec =

@@ -3,8 +3,8 @@ use mathlib.Core.List.{[], ◌∷◌}
 use mathlib.Core.Path.{refl}
 use borrow.Author.Rules.{rules}
 use Rattle.grammar.specs.declared.Verb.TheVariants.{Construct, Goals, Query, Distance, Between, Steer, Valid, Steps, Motion, Other}
-use Rattle.grammar.specs.Calls.{noCall, treeCall}
-use Rattle.grammar.proofs.Others.{none-for}
+use Rattle.grammar.specs.Calls.{no_call, tree_call}
+use Rattle.grammar.proofs.Others.{none_for}
 use Rattle.rrt_calls.specs.Left.{call_of}
 use Rattle.rrt_calls.proofs.call.Statement.{statement}
 use Rattle.rrt_calls.proofs.call.Tie as tie
@@ -37,7 +37,7 @@ same_length : tie.Need-same-length
 same_length c = search rules
 
 returns : tie.Need-returns
-unfolding call_of treeCall
+unfolding call_of tree_call
 returns c =
     let made = c.before.before in
     rw (made.before.before.before.enum_told.given.1, made.setup.ensures)
@@ -46,7 +46,7 @@ same-length-2 : tie.Need-same-length-2
 same-length-2 c = search rules
 
 returns-2 : tie.Need-returns-2
-unfolding call_of treeCall
+unfolding call_of tree_call
 returns-2 c =
     let made = c.before.before in
     rw (made.before.before.before.enum-told2.given.1, made.keepout.ensures)
@@ -55,7 +55,7 @@ same-length-3 : tie.Need-same-length-3
 same-length-3 c = search rules
 
 returns-3 : tie.Need-returns-3
-unfolding call_of treeCall
+unfolding call_of tree_call
 returns-3 c =
     let made = c.before.before in
     rw (made.before.before.enum-told3.given.1, made.solve.ensures)
@@ -64,13 +64,13 @@ same-length-4 : tie.Need-same-length-4
 same-length-4 c = search rules
 
 returns-4 : tie.Need-returns-4
-unfolding call_of treeCall
+unfolding call_of tree_call
 returns-4 c = rw c.before.before.before.before.enum-told4.given.1
 
 returns-5 : tie.Need-returns-5
-unfolding call_of treeCall
+unfolding call_of tree_call
 returns-5 c =
-    none-for (noCall _) (treeCall _ _ _ _) c.before.before.before.args.line.verb
+    none_for (no_call _) (tree_call _ _ _ _) c.before.before.before.args.line.verb
     (Construct ∷ Goals ∷ Query ∷ Distance ∷ Between ∷ Steer ∷ Valid ∷ Steps ∷ Motion ∷ Other ∷ [])
     refl
     c.match.keys5

@@ -4,7 +4,7 @@ use borrow.Author.Rules.{rules}
 use Rattle.plan.specs.Setup.{Told}
 use Rattle.plan.specs.Plan.{Plan}
 use Rattle.tree.specs.Table.{Nodes}
-use Rattle.rrt_calls.specs.Left.{keepoutFrom}
+use Rattle.rrt_calls.specs.Left.{keepout_from}
 use Rattle.rrt_calls.proofs.keepout.Statement.{statement}
 use Rattle.rrt_calls.proofs.keepout.Tie as tie
 
@@ -21,7 +21,7 @@ same_length : tie.Need-same-length
 same_length c = search rules
 
 returns : tie.Need-returns
-unfolding keepoutFrom
+unfolding keepout_from
 returns c =
     let made = c.before.before.before.before.before in
     let kept = made.before in

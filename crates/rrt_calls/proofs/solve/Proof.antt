@@ -4,7 +4,7 @@ use borrow.Author.Rules.{rules}
 use Rattle.plan.specs.Plan.{Plan}
 use Rattle.plan.specs.Solve.{Outcome}
 use Rattle.tree.specs.Table.{Nodes}
-use Rattle.rrt_calls.specs.Left.{solveFrom}
+use Rattle.rrt_calls.specs.Left.{solve_from}
 use Rattle.rrt_calls.proofs.solve.Statement.{statement}
 use Rattle.rrt_calls.proofs.solve.Tie as tie
 
@@ -27,7 +27,7 @@ same_length : tie.Need-same-length
 same_length c = search rules
 
 returns : tie.Need-returns
-unfolding solveFrom
+unfolding solve_from
 returns c =
     let made = c.before.before.before.before.before.before.before.before.before in
     let first = made.before.before in

@@ -9,29 +9,29 @@ use borrow.Author.Rules.{rules}
 use lib.ListN.{length, drop}
 use Rattle.laws.specs.Rest.{mapped}
 use Rattle.answer.specs.declared.Answer.TheVariants.{Done, SamplesEnded, Full}
-use Rattle.fields.specs.Satisfied.{satisfiedOf}
+use Rattle.fields.specs.Satisfied.{satisfied_of}
 use Rattle.keep_out.specs.declared.KeepOut.{KeepOut}
-use Rattle.columns.specs.Columns.{columnsOf}
-use Rattle.samples.specs.Samples.{samplesOf}
+use Rattle.columns.specs.Columns.{columns_of}
+use Rattle.samples.specs.Samples.{samples_of}
 use Rattle.samples.proofs.Threes.{fewer}
-use Rattle.tree.specs.Table.{Nodes, nodesOf}
+use Rattle.tree.specs.Table.{Nodes, nodes_of}
 use Rattle.tree.specs.declared.Tree.{Tree}
-use Rattle.tree.proofs.Append.{Sized, put_of, put-sized}
-use Rattle.route.specs.Path.{pathOf}
+use Rattle.tree.proofs.Append.{Sized, put_of, put_sized}
+use Rattle.route.specs.Path.{path_of}
 use Rattle.route.specs.Written.{written_of}
 use Rattle.route.proofs.Stores.{nothing_written}
-use Rattle.plan.specs.Plan.{Plan, planFrom}
-use Rattle.plan.specs.Solve.{Ended, noRoute}
+use Rattle.plan.specs.Plan.{Plan, plan_from}
+use Rattle.plan.specs.Solve.{Ended, no_route}
 use Rattle.rrt_run.specs.Run.{run_of}
-use Rattle.rrt_run.proofs.Runs.{turn-refused, turn-full, turn-goal, turn-added}
+use Rattle.rrt_run.proofs.Runs.{turn_refused, turn_full, turn_goal, turn_added}
 use Rattle.rrt_run.proofs.run.Statement.{statement}
 use Rattle.rrt_run.proofs.run.Tie as tie
 
 abbrev invariant-samples : tie.invariant-samples
 invariant-samples max goal samples route₀ limits segment columns rows tree₀ at₀ taken₀ route tree at taken =
     (at ≤ length samples) × (taken ≤ at) × ((0 < tree.count) × (tree.count ≤ 512)) × Sized tree × (route ≡ route₀)
-    × (let p : Plan = record { limits = limits; segment = segment; keepOuts = columnsOf columns.kinds columns.numbers rows; max = max.value; goal = goal } in
-    run_of p (nodesOf tree₀) 0 (samplesOf samples) ≡ run_of p (nodesOf tree) taken (samplesOf (drop at samples)))
+    × (let p : Plan = record { limits = limits; segment = segment; keep_outs = columns_of columns.kinds columns.numbers rows; max = max.value; goal = goal } in
+    run_of p (nodes_of tree₀) 0 (samples_of samples) ≡ run_of p (nodes_of tree) taken (samples_of (drop at samples)))
 
 abbrev decreases-samples : tie.decreases-samples
 decreases-samples max goal samples route₀ limits segment columns rows tree₀ at₀ taken₀ route tree at taken = length samples - at
@@ -44,24 +44,24 @@ module _ (c : tie.After-of invariant-samples decreases-samples) where
   abbrev start : tie.Start invariant-samples decreases-samples
   start = c.before.before.before.before
 
-  abbrev withColumns : List KeepOut → Plan
-  withColumns ks =
+  abbrev with_columns : List KeepOut → Plan
+  with_columns ks =
       record {
         limits = start.args.mount.limits;
         segment = start.args.mount.segment.value;
-        keepOuts = ks;
+        keep_outs = ks;
         max = start.args.max.value;
         goal = start.args.goal;
       }
 
   abbrev plan : Plan
-  plan = withColumns (columnsOf c.of.result.kinds c.of.result.numbers c.of.result.count)
+  plan = with_columns (columns_of c.of.result.kinds c.of.result.numbers c.of.result.count)
 
   abbrev run : Plan → Ended Nodes
-  run p = run_of p (nodesOf start.args.rooted) 0 (samplesOf start.args.samples.now)
+  run p = run_of p (nodes_of start.args.rooted) 0 (samples_of start.args.samples.now)
 
-  same-run : (e : Ended Nodes) → run plan ≡ e → e ≡ run (planFrom start.args.mount start.args.max start.args.goal)
-  same-run e is = sym is ∙ ap (λ (ks : List KeepOut). run (withColumns ks)) c.of.ensures.is
+  same-run : (e : Ended Nodes) → run plan ≡ e → e ≡ run (plan_from start.args.mount start.args.max start.args.goal)
+  same-run e is = sym is ∙ ap (λ (ks : List KeepOut). run (with_columns ks)) c.of.ensures.is
 
 -- what is known after a step
 module _ (c : tie.After-step invariant-samples decreases-samples) where
@@ -90,18 +90,18 @@ module _ (c : tie.After-step invariant-samples decreases-samples) where
   abbrev whole : Ended Nodes
   whole = run head.before p
 
-  refused : c.step.result.accepted ≡ false → whole ≡ run_of p (nodesOf t) (head.samples.taken + 1) (samplesOf (drop (head.samples.at + 3) args.args.samples.now))
-  refused = turn-refused p _ t _ _ _ here head.samples.inv.2.1 head.samples.inv.5 c.step.result c.step.ensures
+  refused : c.step.result.accepted ≡ false → whole ≡ run_of p (nodes_of t) (head.samples.taken + 1) (samples_of (drop (head.samples.at + 3) args.args.samples.now))
+  refused = turn_refused p _ t _ _ _ here head.samples.inv.2.1 head.samples.inv.5 c.step.result c.step.ensures
 
-  full : c.step.result.accepted ≡ true → 512 ≤ t.count → whole ≡ noRoute (nodesOf t) Full (head.samples.taken + 1)
-  full = turn-full p _ t _ _ _ here head.samples.inv.2.1 head.samples.inv.5 c.step.result c.step.ensures
+  full : c.step.result.accepted ≡ true → 512 ≤ t.count → whole ≡ no_route (nodes_of t) Full (head.samples.taken + 1)
+  full = turn_full p _ t _ _ _ here head.samples.inv.2.1 head.samples.inv.5 c.step.result c.step.ensures
 
-  module _ (yes : c.step.result.accepted ≡ true) (k : t.count < 512) (b : Bool) (f : b ≡ satisfiedOf args.args.goal c.step.result.at) where
-    found : b ≡ true → whole ≡ record { tables = nodesOf grown; answer = Done; path = pathOf (nodesOf grown) t.count; taken = head.samples.taken + 1 }
-    found = turn-goal p _ t _ _ _ here head.samples.inv.2.1 head.samples.inv.5 c.step.result c.step.ensures head.samples.inv.3 yes k b f
+  module _ (yes : c.step.result.accepted ≡ true) (k : t.count < 512) (b : Bool) (f : b ≡ satisfied_of args.args.goal c.step.result.at) where
+    found : b ≡ true → whole ≡ record { tables = nodes_of grown; answer = Done; path = path_of (nodes_of grown) t.count; taken = head.samples.taken + 1 }
+    found = turn_goal p _ t _ _ _ here head.samples.inv.2.1 head.samples.inv.5 c.step.result c.step.ensures head.samples.inv.3 yes k b f
 
-    added : b ≡ false → whole ≡ run_of p (nodesOf grown) (head.samples.taken + 1) (samplesOf (drop (head.samples.at + 3) args.args.samples.now))
-    added = turn-added p _ t _ _ _ here head.samples.inv.2.1 head.samples.inv.5 c.step.result c.step.ensures head.samples.inv.3 yes k b f
+    added : b ≡ false → whole ≡ run_of p (nodes_of grown) (head.samples.taken + 1) (samples_of (drop (head.samples.at + 3) args.args.samples.now))
+    added = turn_added p _ t _ _ _ here head.samples.inv.2.1 head.samples.inv.5 c.step.result c.step.ensures head.samples.inv.3 yes k b f
 
   -- there are not so many samples
   few : length args.args.samples.now < 2 ^ 64
@@ -197,13 +197,13 @@ same_length c =
     path.reconstruct-path.auto.1.1.1.1.1.1.0 ∙ ap length (head step).samples.invariant.4
 
 returns : tie.Need-returns invariant-samples decreases-samples
-unfolding nodesOf
+unfolding nodes_of
 returns c =
     let path = c.before.before in
     let sat = path.before.before.before.before.before.before.before.before in
     let inside = sat.before.before in
     let step = inside.before.before in
-    let e : Ended Nodes = record { tables = nodesOf (grown step); answer = Done; path = pathOf (nodesOf (grown step)) (t step).count; taken = (head step).samples.taken + 1 } in
+    let e : Ended Nodes = record { tables = nodes_of (grown step); answer = Done; path = path_of (nodes_of (grown step)) (t step).count; taken = (head step).samples.taken + 1 } in
     record {
       ended = e;
       is = same-run (head step).before e (found step inside.before.if1.true inside.if2.true _ sat.is-satisfied.ensures path.before.before.before.before.before.before.before.if3.true);
@@ -224,7 +224,7 @@ same-length-2 c =
 returns-2 : tie.Need-returns-2 invariant-samples decreases-samples
 returns-2 c =
     let step = c.before.before in
-    let e : Ended Nodes = noRoute (nodesOf (t step)) Full ((head step).samples.taken + 1) in
+    let e : Ended Nodes = no_route (nodes_of (t step)) Full ((head step).samples.taken + 1) in
     record {
       ended = e;
       is = same-run (head step).before e (full step c.before.if1.true c.if2.false);
@@ -248,13 +248,13 @@ samples-again c =
     let step = c.before in
     let h = (head step).samples in
     let H : Tree → Type 0 = λ x. ((0 < x.count) × (x.count ≤ 512)) × Sized x
-    × (whole step ≡ run_of (p step) (nodesOf x) (h.taken + 1) (samplesOf (drop (h.at + 3) (args step).args.samples.now))) in
+    × (whole step ≡ run_of (p step) (nodes_of x) (h.taken + 1) (samples_of (drop (h.at + 3) (args step).args.samples.now))) in
     let r : H c.if1.tree =
     ⊎_elim
     (λ w.
     subst H (sym w.5) (
       (omega arith, omega (arith, w.1.taken)),
-      put-sized (t step) _ _ h.inv.3,
+      put_sized (t step) _ _ h.inv.3,
       added step w.0.taken w.1.taken _ w.3.ensures w.4.left,
     ))
     (λ w. subst H (sym w.1) (h.inv.2, h.inv.3, refused step w.0.left)) c.if1.branch in
@@ -269,10 +269,10 @@ returns-3 c =
     let h = c.before.samples in
     let s = start c.before.before in
     let p = plan c.before.before in
-    let e : Ended Nodes = noRoute (nodesOf h.tree) SamplesEnded h.taken in
+    let e : Ended Nodes = no_route (nodes_of h.tree) SamplesEnded h.taken in
     record {
       ended = e;
-      is = same-run c.before.before e (h.invariant.5 ∙ ap (run_of p (nodesOf h.tree) h.taken) (fewer _ _ (omega arith) h.invariant.0));
+      is = same-run c.before.before e (h.invariant.5 ∙ ap (run_of p (nodes_of h.tree) h.taken) (fewer _ _ (omega arith) h.invariant.0));
       nodes = refl;
       answer = refl;
       count = refl;

@@ -4,13 +4,13 @@ use mathlib.Core.Path.{◌≡◌, refl, sym, ◌∙◌}
 use native.Mathlib.Omega.{arith}
 use borrow.Author.Rules.{rules}
 use lib.ListN.{length, drop}
-use Rattle.samples.specs.Samples.{allCoordinates}
-use Rattle.samples.proofs.Checked.{number-good, number-bad, numbers-done, list_over, list-is}
+use Rattle.samples.specs.Samples.{all_coordinates}
+use Rattle.samples.proofs.Checked.{number_good, number_bad, numbers_done, list_over, list_is}
 use Rattle.samples.proofs.are_good.Statement.{statement}
 use Rattle.samples.proofs.are_good.Tie as tie
 
 abbrev invariant-numbers : tie.invariant-numbers
-invariant-numbers list over i₀ i = (i ≤ length list) × (allCoordinates list ≡ allCoordinates (drop i list))
+invariant-numbers list over i₀ i = (i ≤ length list) × (all_coordinates list ≡ all_coordinates (drop i list))
 
 abbrev decreases-numbers : tie.decreases-numbers
 decreases-numbers list over i₀ i = length list - i
@@ -39,17 +39,17 @@ numbers-less c = omega arith
 numbers-again : tie.Need-numbers-preserved invariant-numbers decreases-numbers
 numbers-again c =
     let turn = c.before.before.before in
-    (omega arith, number-good _ _ turn.before.numbers.invariant.1 turn.numbers-test.true (sym c.before.is-coordinate.ensures ∙ c.if2.true))
+    (omega arith, number_good _ _ turn.before.numbers.invariant.1 turn.numbers-test.true (sym c.before.is-coordinate.ensures ∙ c.if2.true))
 
 returns-2 : tie.Need-returns-2 invariant-numbers decreases-numbers
 returns-2 c =
     let turn = c.before.before.before in
     sym
-    (list-is _ turn.before.before.if1.false
-    ∙ number-bad _ _ turn.before.numbers.invariant.1 turn.numbers-test.true (sym c.before.is-coordinate.ensures ∙ c.if2.false))
+    (list_is _ turn.before.before.if1.false
+    ∙ number_bad _ _ turn.before.numbers.invariant.1 turn.numbers-test.true (sym c.before.is-coordinate.ensures ∙ c.if2.false))
 
 returns-3 : tie.Need-returns-3 invariant-numbers decreases-numbers
-returns-3 c = sym (list-is _ c.before.before.if1.false ∙ numbers-done _ _ c.before.numbers.invariant.1 c.numbers-test.false)
+returns-3 c = sym (list_is _ c.before.before.if1.false ∙ numbers_done _ _ c.before.numbers.invariant.1 c.numbers-test.false)
 
 pub are-good-spec : {M : Type 1} → statement M
 are-good-spec =

@@ -7,39 +7,39 @@ use native.Mathlib.Omega.{arith}
 use borrow.Author.Rules.{rules}
 use lib.ListN.{length, get_or}
 use Rattle.state.specs.declared.State.{State}
-use Rattle.keep_out_table.specs.Table.{keepOutsOf}
+use Rattle.keep_out_table.specs.Table.{keep_outs_of}
 use Rattle.keep_out.specs.declared.KeepOut.{KeepOut}
-use Rattle.columns.specs.Columns.{columnsOf}
+use Rattle.columns.specs.Columns.{columns_of}
 use Rattle.tree.specs.Table.{Nodes}
-use Rattle.route.specs.Path.{pathOf}
+use Rattle.route.specs.Path.{path_of}
 use Rattle.route.specs.Written.{written_of}
 use Rattle.route.proofs.Stores.{nothing_written}
 use Rattle.roadmap.specs.Map.{Milestone}
-use Rattle.construct.specs.Construct.{joinedOf}
+use Rattle.construct.specs.Construct.{joined_of}
 use Rattle.state.specs.Rows.{row_at}
-use Rattle.roadmap.specs.View.{span_of, view_of, milestonesOf}
+use Rattle.roadmap.specs.View.{span_of, view_of, milestones_of}
 use Rattle.roadmap.specs.declared.Roadmap.{Roadmap}
-use Rattle.roadmap.proofs.View.{view-long}
-use Rattle.queue.specs.Places.{numbersOf, Place, pushOf}
-use Rattle.queue.specs.Queue.{queueOf}
-use Rattle.queue.proofs.Queues.{no-queue}
+use Rattle.roadmap.proofs.View.{view_long}
+use Rattle.queue.specs.Places.{numbers_of, Place, push_of}
+use Rattle.queue.specs.Queue.{queue_of}
+use Rattle.queue.proofs.Queues.{no_queue}
 use Rattle.search.specs.Search.{Found}
-use Rattle.search.specs.Query.{routeOf, queryOf}
-use Rattle.search.proofs.Seeking.{seeks, Seeking, seeking-starts, seeking-goal, seeking-next, seeking-ends, few, low, tree_is, query-is}
+use Rattle.search.specs.Query.{route_of, query_of}
+use Rattle.search.proofs.Seeking.{seeks, Seeking, seeking_starts, seeking_goal, seeking_next, seeking_ends, few, low, tree_is, query_is}
 use Rattle.search.proofs.find_route.Statement.{statement}
 use Rattle.search.proofs.find_route.Tie as tie
 
 abbrev invariant-queue : tie.invariant-queue
 invariant-queue radius start goal route₀ map rows count marks₀ seen₀ order₀ from₀ n₀ p₀ route marks seen order from n p =
-    (route ≡ route₀) × Seeking goal map.az map.el map.feed map.legs count (queueOf order₀ from₀ n₀) marks seen order from n p
+    (route ≡ route₀) × Seeking goal map.az map.el map.feed map.legs count (queue_of order₀ from₀ n₀) marks seen order from n p
 
 abbrev decreases-queue : tie.decreases-queue
 decreases-queue radius start goal route₀ map rows count marks₀ seen₀ order₀ from₀ n₀ p₀ route marks seen order from n p = 256 - p
 
 -- how many milestones there are
 most : (c : tie.After-size invariant-queue decreases-queue) → c.size.result ≡ min c.before.before.before.args.t5.count 256
-unfolding milestonesOf
-most c = c.size.ensures ∙ view-long _ _ _ _ _
+unfolding milestones_of
+most c = c.size.ensures ∙ view_long _ _ _ _ _
 
 -- the loop's head: what the query is, from the queue of the start connections
 module _ (h : tie.At-queue invariant-queue decreases-queue) where
@@ -58,33 +58,33 @@ module _ (h : tie.At-queue invariant-queue decreases-queue) where
   -- the query over these keep-outs and milestones
   abbrev query : List KeepOut → List Milestone → List State
   query ks milestones =
-      queryOf args.args.mount.limits args.args.mount.segment.value ks args.args.radius args.args.start args.args.goal milestones
+      query_of args.args.mount.limits args.args.mount.segment.value ks args.args.radius args.args.start args.args.goal milestones
 
   abbrev columns : List KeepOut
-  columns = columnsOf sized.before.of.result.kinds sized.before.of.result.numbers sized.before.of.result.count
+  columns = columns_of sized.before.of.result.kinds sized.before.of.result.numbers sized.before.of.result.count
 
   abbrev view : List Milestone
   view = view_of map.az map.el map.feed map.legs count
 
-  same_view : milestonesOf map ≡ view
-  unfolding milestonesOf
+  same_view : milestones_of map ≡ view
+  unfolding milestones_of
   same_view = ap (view_of map.az map.el map.feed map.legs) (sym (most sized))
 
   -- whether the start reaches the milestone j
   abbrev reached : ℕ → Bool
   reached j =
-      joinedOf args.args.mount.limits args.args.mount.segment.value columns args.args.radius args.args.start
+      joined_of args.args.mount.limits args.args.mount.segment.value columns args.args.radius args.args.start
       (row_at map.az map.el map.feed j)
 
   answered :
       (order from : List ℕ) (q₀ : List Place) (found : Found) →
-      q₀ ≡ pushOf 0 (queueOf order from 0) (numbersOf 0 (span_of 0 count reached)) →
+      q₀ ≡ push_of 0 (queue_of order from 0) (numbers_of 0 (span_of 0 count reached)) →
       seeks args.args.goal map.az map.el map.feed map.legs count 256 q₀ 0 ≡ found →
-      query (keepOutsOf args.args.mount.table) (milestonesOf map) ≡ routeOf args.args.start view found
+      query (keep_outs_of args.args.mount.table) (milestones_of map) ≡ route_of args.args.start view found
   answered order from q₀ found first e =
-      ap (λ (ks : List KeepOut). query ks (milestonesOf map)) (sym sized.before.of.ensures.is) ∙ ap (query columns) same_view
-      ∙ query-is _ _ columns _ args.args.start args.args.goal map.az map.el map.feed map.legs count order from q₀ first
-      ∙ ap (routeOf args.args.start view) e
+      ap (λ (ks : List KeepOut). query ks (milestones_of map)) (sym sized.before.of.ensures.is) ∙ ap (query columns) same_view
+      ∙ query_is _ _ columns _ args.args.start args.args.goal map.az map.el map.feed map.legs count order from q₀ first
+      ∙ ap (route_of args.args.start view) e
 
 -- a turn: the milestone that is taken from the queue is one of the table
 module _ (c : tie.In-queue invariant-queue decreases-queue) where
@@ -100,10 +100,10 @@ size-requires c κs = search rules
 connect-requires : tie.Need-connect-requires invariant-queue decreases-queue
 connect-requires c κs =
     let sized = c.before.before.before.before.before.before.before.before.before.before.before in
-    (omega (arith, most sized), no-queue _)
+    (omega (arith, most sized), no_queue _)
 
 queue-holds : tie.Need-queue-init invariant-queue decreases-queue
-queue-holds c = (refl, seeking-starts _ _ _ _ _ _ _ _ _ _ _ c.connect.ensures.queue)
+queue-holds c = (refl, seeking_starts _ _ _ _ _ _ _ _ _ _ _ c.connect.ensures.queue)
 
 mul-u : tie.Need-overflow-mul-u invariant-queue decreases-queue
 mul-u c = omega (arith, few c.before.queue.invariant.1)
@@ -145,7 +145,7 @@ same_length c =
     w.write.auto.1.1.1.1.1.1.1.1.0 ∙ ap length turn.before.queue.invariant.0
 
 returns : tie.Need-returns invariant-queue decreases-queue
-unfolding routeOf
+unfolding route_of
 returns c =
     let w = c.before.before in
     let met = w.before.before.before.before.before.before.before.before in
@@ -153,9 +153,9 @@ returns c =
     let turn = tested.before.before.before.before in
     let h = turn.before.queue in
     let s = args turn.before in
-    let goal = seeking-goal h.invariant.1 turn.queue-test.true tested.is-satisfied.ensures met.if1.true in
+    let goal = seeking_goal h.invariant.1 turn.queue-test.true tested.is-satisfied.ensures met.if1.true in
     let found = answered turn.before _ _ _ _ turn.before.before.connect.ensures.places goal in
-    let path = found ∙ ap (λ (x : Nodes). pathOf x (h.p + 1)) (tree_is h.invariant.1 s.args.start) in
+    let path = found ∙ ap (λ (x : Nodes). path_of x (h.p + 1)) (tree_is h.invariant.1 s.args.start) in
     record {
       count = w.write.ensures.count ∙ sym (ap length path);
       memory = w.write.ensures.memory ∙ ap (written_of _) h.invariant.0 ∙ sym (ap (λ (l : List State). written_of l s.args.route.now) path);
@@ -188,16 +188,16 @@ queue-again c =
     let tested = missed.before in
     let turn = tested.before.before.before.before in
     let h = turn.before.queue in
-    (h.invariant.0, seeking-next h.invariant.1 turn.queue-test.true tested.is-satisfied.ensures missed.if1.false c.spread.ensures)
+    (h.invariant.0, seeking_next h.invariant.1 turn.queue-test.true tested.is-satisfied.ensures missed.if1.false c.spread.ensures)
 
 same-length-2 : tie.Need-same-length-2 invariant-queue decreases-queue
 same-length-2 c = ap length c.before.queue.invariant.0
 
 returns-2 : tie.Need-returns-2 invariant-queue decreases-queue
-unfolding routeOf
+unfolding route_of
 returns-2 c =
     let h = c.before.queue in
-    let none = answered c.before _ _ _ _ c.before.before.connect.ensures.places (seeking-ends h.invariant.1 c.queue-test.false) in
+    let none = answered c.before _ _ _ _ c.before.before.connect.ensures.places (seeking_ends h.invariant.1 c.queue-test.false) in
     record {
       count = sym (ap length none);
       memory = h.invariant.0 ∙ sym (ap (λ (path : List State). written_of path (args c.before).args.route.now) none ∙ nothing_written _);

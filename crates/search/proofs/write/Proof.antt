@@ -5,11 +5,11 @@ use native.Mathlib.Omega.{arith}
 use borrow.Author.Rules.{rules}
 use lib.ListN.{length, get_or}
 use Rattle.tree.specs.Table.{Nodes}
-use Rattle.route.specs.Path.{pathOf}
+use Rattle.route.specs.Path.{path_of}
 use Rattle.route.specs.Written.{written_of}
 use Rattle.state.specs.Rows.{row_at}
 use Rattle.search.specs.Query.{Numbers}
-use Rattle.search.proofs.Trees.{Growing, growing-starts, growing-more, grown-all}
+use Rattle.search.proofs.Trees.{Growing, growing_starts, growing_more, grown_all}
 use Rattle.search.proofs.write.Statement.{statement}
 use Rattle.search.proofs.write.Tie as tie
 
@@ -33,7 +33,7 @@ rooted-requires c κs = search rules
 places-holds : tie.Need-places-init invariant-places decreases-places
 places-holds c =
     let s = c.before.before in
-    (omega arith, s.requires.1, s.requires.2, growing-starts _ _ _ _ _ c.rooted.ensures)
+    (omega arith, s.requires.1, s.requires.2, growing_starts _ _ _ _ _ c.rooted.ensures)
 
 mul-v : tie.Need-overflow-mul-v invariant-places decreases-places
 mul-v c = omega arith
@@ -102,7 +102,7 @@ places-again : tie.Need-places-preserved invariant-places decreases-places
 places-again c =
     let turn = c.before.before.before.before.before in
     let h = turn.before.places.invariant in
-    (omega arith, h.1, h.2, growing-more _ _ _ _ _ _ h.3 (omega arith))
+    (omega arith, h.1, h.2, growing_more _ _ _ _ _ _ h.3 (omega arith))
 
 add-reconstruct-path : tie.Need-overflow-add-reconstruct-path invariant-places decreases-places
 add-reconstruct-path c = omega arith
@@ -125,10 +125,10 @@ returns c =
     let head = left.before in
     let s = head.before.before.before in
     let all : head.places.k ≡ s.args.n = omega (arith, left.places-test.false) in
-    let tree = grown-all _ _ _ _ _ _ _ (rw all at head.places.invariant.3) head.before.rooted.ensures in
+    let tree = grown_all _ _ _ _ _ _ _ (rw all at head.places.invariant.3) head.before.rooted.ensures in
     record {
-      count = wrote.count ∙ ap (λ (x : Nodes). length (pathOf x (s.args.p + 1))) tree;
-      memory = wrote.memory ∙ ap (λ (x : Nodes). written_of (pathOf x (s.args.p + 1)) s.args.route.now) tree;
+      count = wrote.count ∙ ap (λ (x : Nodes). length (path_of x (s.args.p + 1))) tree;
+      memory = wrote.memory ∙ ap (λ (x : Nodes). written_of (path_of x (s.args.p + 1)) s.args.route.now) tree;
     }
 
 pub write_spec : {M : Type 1} → statement M

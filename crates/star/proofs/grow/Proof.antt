@@ -1,15 +1,15 @@
 -- `star::grow` meets its contract.
 use borrow.Author.Rules.{rules}
-use Rattle.columns.specs.Columns.{columnsOf}
-use Rattle.star.specs.Grow.{Reach, planWith}
-use Rattle.star.proofs.Growing.{nearest-is-one, refused, full, added}
+use Rattle.columns.specs.Columns.{columns_of}
+use Rattle.star.specs.Grow.{Reach, plan_with}
+use Rattle.star.proofs.Growing.{nearest_is_one, refused, full, added}
 use Rattle.star.proofs.grow.Statement.{statement}
 use Rattle.star.proofs.grow.Tie as tie
 
 -- what the sample needs of the setup
 abbrev reach : tie.Start → Reach
 reach s =
-    planWith s.args.limits s.args.segment (columnsOf s.args.kinds.now s.args.numbers.now s.args.keep-outs) s.args.max-distance s.args.radius
+    plan_with s.args.limits s.args.segment (columns_of s.args.kinds.now s.args.numbers.now s.args.keep-outs) s.args.max-distance s.args.radius
 
 step-requires : tie.Need-step-requires
 step-requires c κs = search rules
@@ -22,7 +22,7 @@ choose-parent-requires c κs =
     let find = c.before.before.before.before.before in
     let step = find.before.before.before.before.before.before.before.before in
     let start = step.before.before.before.before in
-    (start.requires.1, nearest-is-one _ _ _ _ _ _ _ _ start.requires.0 start.requires.1 _ step.step.result step.step.ensures, find.find-neighbours.ensures.few, find.find-neighbours.ensures.numbers, find.find-neighbours.ensures.sized)
+    (start.requires.1, nearest_is_one _ _ _ _ _ _ _ _ start.requires.0 start.requires.1 _ step.step.result step.step.ensures, find.find-neighbours.ensures.few, find.find-neighbours.ensures.numbers, find.find-neighbours.ensures.sized)
 
 mul-parent : tie.Need-overflow-mul-parent
 mul-parent c = search rules

@@ -4,7 +4,7 @@ use borrow.Author.Rules.{rules}
 use Rattle.plan.specs.Setup.{Told}
 use Rattle.star_run.specs.Run.{StarPlan}
 use Rattle.star.specs.Grow.{Costed}
-use Rattle.star_calls.specs.Left.{setupFrom}
+use Rattle.star_calls.specs.Left.{setup_from}
 use Rattle.star_calls.proofs.setup.Statement.{statement}
 use Rattle.star_calls.proofs.setup.Tie as tie
 
@@ -36,7 +36,7 @@ same_length : tie.Need-same-length
 same_length c = search rules
 
 returns : tie.Need-returns
-unfolding setupFrom
+unfolding setup_from
 returns c =
     let made = c.before.before.before.before.before in
     let goal = made.before in

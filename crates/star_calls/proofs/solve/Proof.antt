@@ -4,7 +4,7 @@ use borrow.Author.Rules.{rules}
 use Rattle.star_run.specs.Run.{StarPlan}
 use Rattle.plan.specs.Solve.{Outcome}
 use Rattle.star.specs.Grow.{Costed}
-use Rattle.star_calls.specs.Left.{solveFrom}
+use Rattle.star_calls.specs.Left.{solve_from}
 use Rattle.star_calls.proofs.solve.Statement.{statement}
 use Rattle.star_calls.proofs.solve.Tie as tie
 
@@ -27,7 +27,7 @@ same_length : tie.Need-same-length
 same_length c = search rules
 
 returns : tie.Need-returns
-unfolding solveFrom
+unfolding solve_from
 returns c =
     let made = c.before.before.before.before.before.before.before.before.before in
     let first = made.before.before in

@@ -9,26 +9,26 @@ use lib.ListN.{length, drop}
 use lib.Ieee.{Float}
 use Rattle.laws.specs.Rest.{mapped}
 use Rattle.answer.specs.declared.Answer.TheVariants as answer
-use Rattle.fields.specs.Satisfied.{satisfiedOf}
+use Rattle.fields.specs.Satisfied.{satisfied_of}
 use Rattle.keep_out.specs.declared.KeepOut.{KeepOut}
-use Rattle.columns.specs.Columns.{columnsOf}
-use Rattle.samples.specs.Samples.{samplesOf}
+use Rattle.columns.specs.Columns.{columns_of}
+use Rattle.samples.specs.Samples.{samples_of}
 use Rattle.samples.proofs.Threes.{fewer}
 use Rattle.extend.specs.declared.Verdict.TheVariants as verdict
 use Rattle.route.specs.Written.{written_of}
 use Rattle.route.proofs.Stores.{nothing_written}
-use Rattle.plan.specs.Solve.{Ended, noRoute}
-use Rattle.star.specs.Grow.{Costed, planWith, treeIn, Sized}
-use Rattle.star_run.specs.Run.{StarPlan, starPlan, tree_of, run_of}
-use Rattle.star_run.proofs.Runs.{found_at, turn-refused, turn-full, turn-goal, turn-added}
+use Rattle.plan.specs.Solve.{Ended, no_route}
+use Rattle.star.specs.Grow.{Costed, plan_with, tree_in, Sized}
+use Rattle.star_run.specs.Run.{StarPlan, star_plan, tree_of, run_of}
+use Rattle.star_run.proofs.Runs.{found_at, turn_refused, turn_full, turn_goal, turn_added}
 use Rattle.star_run.proofs.run.Statement.{statement}
 use Rattle.star_run.proofs.run.Tie as tie
 
 abbrev invariant-samples : tie.invariant-samples
 invariant-samples max radius goal samples route₀ limits segment columns rows az₀ el₀ feed₀ parent₀ cost₀ n₀ found₀ at₀ taken₀ route az el feed parent cost n found at taken =
     (at ≤ length samples) × (taken ≤ at) × ((0 < n) × (n ≤ 512) × Sized az el feed parent cost found) × (route ≡ route₀)
-    × (let p : StarPlan = record { reach = planWith limits segment (columnsOf columns.kinds columns.numbers rows) max.value radius.value; goal = goal } in
-    run_of p (treeIn n₀ az₀ el₀ feed₀ parent₀ cost₀) 0 (samplesOf samples) ≡ run_of p (treeIn n az el feed parent cost) taken (samplesOf (drop at samples)))
+    × (let p : StarPlan = record { reach = plan_with limits segment (columns_of columns.kinds columns.numbers rows) max.value radius.value; goal = goal } in
+    run_of p (tree_in n₀ az₀ el₀ feed₀ parent₀ cost₀) 0 (samples_of samples) ≡ run_of p (tree_in n az el feed parent cost) taken (samples_of (drop at samples)))
 
 abbrev decreases-samples : tie.decreases-samples
 decreases-samples max radius goal samples route₀ limits segment columns rows az₀ el₀ feed₀ parent₀ cost₀ n₀ found₀ at₀ taken₀ route az el feed parent cost n found at taken =
@@ -44,21 +44,21 @@ module _ (c : tie.After-of invariant-samples decreases-samples) where
   abbrev begun : tie.Start invariant-samples decreases-samples
   begun = c.before.before.before.before
 
-  abbrev withColumns : List KeepOut → StarPlan
-  withColumns ks =
+  abbrev with_columns : List KeepOut → StarPlan
+  with_columns ks =
       record {
-        reach = planWith begun.args.mount.limits begun.args.mount.segment.value ks begun.args.max.value begun.args.radius.value;
+        reach = plan_with begun.args.mount.limits begun.args.mount.segment.value ks begun.args.max.value begun.args.radius.value;
         goal = begun.args.goal;
       }
 
   abbrev plan : StarPlan
-  plan = withColumns (columnsOf c.of.result.kinds c.of.result.numbers c.of.result.count)
+  plan = with_columns (columns_of c.of.result.kinds c.of.result.numbers c.of.result.count)
 
   abbrev run : StarPlan → Ended Costed
-  run p = run_of p (tree_of begun.args.rooted begun.args.costs) 0 (samplesOf begun.args.samples.now)
+  run p = run_of p (tree_of begun.args.rooted begun.args.costs) 0 (samples_of begun.args.samples.now)
 
-  same-run : (e : Ended Costed) → run plan ≡ e → e ≡ run (starPlan begun.args.mount begun.args.max begun.args.radius begun.args.goal)
-  same-run e is = sym is ∙ ap (λ (ks : List KeepOut). run (withColumns ks)) c.of.ensures.is
+  same-run : (e : Ended Costed) → run plan ≡ e → e ≡ run (star_plan begun.args.mount begun.args.max begun.args.radius begun.args.goal)
+  same-run e is = sym is ∙ ap (λ (ks : List KeepOut). run (with_columns ks)) c.of.ensures.is
 
 -- what is known after a sample
 module _ (c : tie.After-grow invariant-samples decreases-samples) where
@@ -101,24 +101,24 @@ module _ (c : tie.After-grow invariant-samples decreases-samples) where
   found = c.grow.new.1.1.1.1.1.1.0
 
   abbrev after : Costed
-  after = treeIn c.grow.result.count az el feed parent cost
+  after = tree_in c.grow.result.count az el feed parent cost
 
   abbrev whole : Ended Costed
   whole = run of (plan of)
 
   -- the laws of a turn, at this one
-  refused : c.grow.result.verdict ≡ verdict.Refused → whole ≡ run_of (plan of) after (head.samples.taken + 1) (samplesOf (drop (head.samples.at + 3) args.args.samples.now))
-  refused = turn-refused (plan of) _ _ _ _ _ _ _ _ _ _ here head.samples.inv.4 c.grow.result az el feed parent cost found c.grow.ensures
+  refused : c.grow.result.verdict ≡ verdict.Refused → whole ≡ run_of (plan of) after (head.samples.taken + 1) (samples_of (drop (head.samples.at + 3) args.args.samples.now))
+  refused = turn_refused (plan of) _ _ _ _ _ _ _ _ _ _ here head.samples.inv.4 c.grow.result az el feed parent cost found c.grow.ensures
 
-  full : c.grow.result.verdict ≡ verdict.Full → whole ≡ noRoute after answer.Full (head.samples.taken + 1)
-  full = turn-full (plan of) _ _ _ _ _ _ _ _ _ _ here head.samples.inv.4 c.grow.result az el feed parent cost found c.grow.ensures
+  full : c.grow.result.verdict ≡ verdict.Full → whole ≡ no_route after answer.Full (head.samples.taken + 1)
+  full = turn_full (plan of) _ _ _ _ _ _ _ _ _ _ here head.samples.inv.4 c.grow.result az el feed parent cost found c.grow.ensures
 
-  module _ (yes : c.grow.result.verdict ≡ verdict.Added) (b : Bool) (f : b ≡ satisfiedOf args.args.goal c.grow.result.at) where
+  module _ (yes : c.grow.result.verdict ≡ verdict.Added) (b : Bool) (f : b ≡ satisfied_of args.args.goal c.grow.result.at) where
     goal : b ≡ true → whole ≡ found_at after (c.grow.result.count - 1) (head.samples.taken + 1)
-    goal = turn-goal (plan of) _ _ _ _ _ _ _ _ _ _ here head.samples.inv.4 c.grow.result az el feed parent cost found c.grow.ensures yes b f
+    goal = turn_goal (plan of) _ _ _ _ _ _ _ _ _ _ here head.samples.inv.4 c.grow.result az el feed parent cost found c.grow.ensures yes b f
 
-    added : b ≡ false → whole ≡ run_of (plan of) after (head.samples.taken + 1) (samplesOf (drop (head.samples.at + 3) args.args.samples.now))
-    added = turn-added (plan of) _ _ _ _ _ _ _ _ _ _ here head.samples.inv.4 c.grow.result az el feed parent cost found c.grow.ensures yes b f
+    added : b ≡ false → whole ≡ run_of (plan of) after (head.samples.taken + 1) (samples_of (drop (head.samples.at + 3) args.args.samples.now))
+    added = turn_added (plan of) _ _ _ _ _ _ _ _ _ _ here head.samples.inv.4 c.grow.result az el feed parent cost found c.grow.ensures yes b f
 
 of-requires : tie.Need-of-requires invariant-samples decreases-samples
 of-requires c κs = search rules
@@ -195,7 +195,7 @@ returns : tie.Need-returns invariant-samples decreases-samples
 returns c =
     let grow = c.before.before in
     let w = grow.grow.ensures in
-    let e : Ended Costed = noRoute (after grow) answer.Full ((head grow).samples.taken + 1) in
+    let e : Ended Costed = no_route (after grow) answer.Full ((head grow).samples.taken + 1) in
     record {
       ended = e;
       is = same-run (of grow) e (full grow c.enum-told2.given.1);
@@ -233,7 +233,7 @@ same-length-2 c =
     path.reconstruct-path.auto.1.1.1.1.1.1.0 ∙ ap length (head grow).samples.invariant.3
 
 returns-2 : tie.Need-returns-2 invariant-samples decreases-samples
-unfolding treeIn
+unfolding tree_in
 returns-2 c =
     let path = c.before.before in
     let tested = path.before.before.before.before.before.before in
@@ -279,8 +279,8 @@ unfolding run_of
 returns-3 c =
     let h = c.before.samples in
     let from = c.before.before.before.before.before.before in
-    let tree = treeIn h.n h.az h.el h.feed h.parent h.cost in
-    let e : Ended Costed = noRoute tree answer.SamplesEnded h.taken in
+    let tree = tree_in h.n h.az h.el h.feed h.parent h.cost in
+    let e : Ended Costed = no_route tree answer.SamplesEnded h.taken in
     record {
       ended = e;
       is = same-run from e (h.invariant.4 ∙ ap (run_of (plan from) tree h.taken) (fewer _ _ (omega arith) h.invariant.0));

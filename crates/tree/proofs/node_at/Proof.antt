@@ -3,7 +3,7 @@ use Prim.Native.Nat.{min}
 use mathlib.Core.Logic.{⊎_elim}
 use mathlib.Core.Path.{◌≡◌}
 use native.Mathlib.Omega.{arith}
-use Rattle.tree.proofs.Nodes.{at_none, at-child, at-root}
+use Rattle.tree.proofs.Nodes.{at_none, at_child, at_root}
 use Rattle.tree.proofs.node_at.Statement.{statement}
 use Rattle.tree.proofs.node_at.Tie as tie
 
@@ -38,12 +38,12 @@ element-copy-out-p c = omega (arith, most c.before.before.before.before)
 returns : tie.Need-returns
 returns c =
     let inside = c.before.before.before.before.before in
-    at-child _ _ _ _ _ _ _ (most inside.before) inside.if2.true c.if3.true
+    at_child _ _ _ _ _ _ _ (most inside.before) inside.if2.true c.if3.true
 
 returns-2 : tie.Need-returns-2
 returns-2 c =
     let inside = c.before.before.before.before.before in
-    at-root _ _ _ _ _ _ _ (most inside.before) inside.if2.true c.if3.false
+    at_root _ _ _ _ _ _ _ (most inside.before) inside.if2.true c.if3.false
 
 returns-3 : tie.Need-returns-3
 returns-3 c = at_none _ _ _ _ _ _ _ (most c.before) c.if2.false

@@ -8,8 +8,8 @@ use lib.Ieee.{nan}
 use Rattle.laws.specs.Rest.{mapped}
 use Rattle.keep_out.specs.declared.KeepOut.TheVariants.{Floor}
 use Rattle.keep_out_table.specs.declared.Slot.{Slot}
-use Rattle.columns.proofs.Rows.{six-length}
-use Rattle.columns.proofs.Spread.{Rowed, rowed-more, spread-is}
+use Rattle.columns.proofs.Rows.{six_length}
+use Rattle.columns.proofs.Spread.{Rowed, rowed_more, spread_is}
 use Rattle.columns.proofs.Columns.of.Statement.{statement}
 use Rattle.columns.proofs.Columns.of.Tie as tie
 
@@ -120,15 +120,15 @@ rows-again c =
     let small : here.j < 32 = omega arith in (
       omega arith,
       h.1,
-      (simp length-set h.2.0, six-length here.numbers (6 * here.j) c.flattened.result ∙ h.2.1),
-      rowed-more here.kinds here.numbers start.args.t1.slots none here.j c.flattened.result _ c.flattened.ensures h.2.0 h.2.1 (sized start) small h.3,
+      (simp length-set h.2.0, six_length here.numbers (6 * here.j) c.flattened.result ∙ h.2.1),
+      rowed_more here.kinds here.numbers start.args.t1.slots none here.j c.flattened.result _ c.flattened.ensures h.2.0 h.2.1 (sized start) small h.3,
     )
 
 returns : tie.Need-returns invariant-rows decreases-rows
 returns c =
     let h = c.before.rows.invariant in
     let start = c.before.before.before in
-    record { is = spread-is _ _ _ none _ _ (sized start) h.1 c.rows-test.false h.3; many = h.1 }
+    record { is = spread_is _ _ _ none _ _ (sized start) h.1 c.rows-test.false h.3; many = h.1 }
 
 pub of_spec : {M : Type 1} → statement M
 of_spec =

@@ -1,5 +1,5 @@
 -- `fields::Goal::is_satisfied` meets its contract.
-use Rattle.fields.specs.Satisfied.{satisfiedOf}
+use Rattle.fields.specs.Satisfied.{satisfied_of}
 use borrow.Author.Rules.{rules}
 use Rattle.fields.proofs.Goal.is_satisfied.Statement.{statement}
 use Rattle.fields.proofs.Goal.is_satisfied.Tie as tie
@@ -8,7 +8,7 @@ distance-requires : tie.Need-distance-requires
 distance-requires c κs = search rules
 
 returns : tie.Need-returns
-unfolding satisfiedOf
+unfolding satisfied_of
 returns c = rw c.before.distance.ensures
 
 pub is-satisfied-spec : {M : Type 1} → statement M

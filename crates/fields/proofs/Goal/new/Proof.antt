@@ -1,6 +1,6 @@
 -- `fields::Goal::new` meets its contract.
 use mathlib.Core.Path.{sym, ◌∙◌}
-use Rattle.fields.specs.Made.{goalOf}
+use Rattle.fields.specs.Made.{goal_of}
 use borrow.Author.Rules.{rules}
 use Rattle.fields.proofs.Goal.new.Statement.{statement}
 use Rattle.fields.proofs.Goal.new.Tie as tie
@@ -9,11 +9,11 @@ is-good-requires : tie.Need-is-good-requires
 is-good-requires c κs = search rules
 
 returns : tie.Need-returns
-unfolding goalOf
+unfolding goal_of
 returns c = rw (sym c.before.is-good.ensures ∙ c.if1.true)
 
 returns-2 : tie.Need-returns-2
-unfolding goalOf
+unfolding goal_of
 returns-2 c = rw (sym c.before.is-good.ensures ∙ c.if1.false)
 
 pub new_spec : {M : Type 1} → statement M

@@ -1,5 +1,5 @@
 -- `fields::Limits::is_good` meets its contract.
-use Rattle.fields.specs.Ranges.{goodLimits}
+use Rattle.fields.specs.Ranges.{good_limits}
 use borrow.Author.Rules.{rules}
 use Rattle.fields.proofs.Limits.is_good.Statement.{statement}
 use Rattle.fields.proofs.Limits.is_good.Tie as tie
@@ -8,7 +8,7 @@ spans-requires : tie.Need-spans-requires
 spans-requires c κs = search rules
 
 returns : tie.Need-returns
-unfolding goodLimits
+unfolding good_limits
 returns c = c.spans.ensures
 
 pub is-good-spec : {M : Type 1} → statement M

@@ -1,6 +1,6 @@
 -- `fields::Limits::new` meets its contract.
 use mathlib.Core.Path.{sym, ◌∙◌}
-use Rattle.fields.specs.Made.{limitsOf}
+use Rattle.fields.specs.Made.{limits_of}
 use borrow.Author.Rules.{rules}
 use Rattle.fields.proofs.Limits.new.Statement.{statement}
 use Rattle.fields.proofs.Limits.new.Tie as tie
@@ -9,11 +9,11 @@ is-good-requires : tie.Need-is-good-requires
 is-good-requires c κs = search rules
 
 returns : tie.Need-returns
-unfolding limitsOf
+unfolding limits_of
 returns c = rw (sym c.before.is-good.ensures ∙ c.if1.true)
 
 returns-2 : tie.Need-returns-2
-unfolding limitsOf
+unfolding limits_of
 returns-2 c = rw (sym c.before.is-good.ensures ∙ c.if1.false)
 
 pub new_spec : {M : Type 1} → statement M

@@ -3,8 +3,8 @@ use mathlib.Core.Path.{refl, ◌∙◌}
 use mathlib.Core.List.{[], ◌∷◌}
 use borrow.Author.Rules.{rules}
 use Rattle.grammar.specs.declared.Verb.TheVariants.{Keepout, Solve, Construct, Goals, Query, Tables, Other}
-use Rattle.grammar.specs.Rows.{no_row, mountRow}
-use Rattle.grammar.proofs.Others.{none-for}
+use Rattle.grammar.specs.Rows.{no_row, mount_row}
+use Rattle.grammar.proofs.Others.{none_for}
 use Rattle.grammar.proofs.Row.of_mount.Statement.{statement}
 use Rattle.grammar.proofs.Row.of_mount.Tie as tie
 
@@ -54,38 +54,38 @@ none-requires : tie.Need-none-requires
 none-requires c κs = search rules
 
 returns : tie.Need-returns
-unfolding mountRow
+unfolding mount_row
 returns c = rw c.before.enum_told.given.1 c.setup.ensures
 
 returns-2 : tie.Need-returns-2
-unfolding mountRow
+unfolding mount_row
 returns-2 c = rw c.before.enum-told2.given.1 c.of-numbers.ensures
 
 returns-3 : tie.Need-returns-3
-unfolding mountRow
+unfolding mount_row
 returns-3 c = rw c.before.enum-told3.given.1 c.of-numbers2.ensures
 
 returns-4 : tie.Need-returns-4
-unfolding mountRow
+unfolding mount_row
 returns-4 c = rw c.before.enum-told4.given.1 c.of-numbers3.ensures
 
 returns-5 : tie.Need-returns-5
-unfolding mountRow
+unfolding mount_row
 returns-5 c = rw c.before.enum-told5.given.1 c.of-numbers4.ensures
 
 returns-6 : tie.Need-returns-6
-unfolding mountRow
+unfolding mount_row
 returns-6 c = rw c.before.enum-told6.given.1 c.of-numbers5.ensures
 
 returns-7 : tie.Need-returns-7
-unfolding mountRow
+unfolding mount_row
 returns-7 c = rw c.before.enum-told7.given.1 c.of-numbers6.ensures
 
 returns-8 : tie.Need-returns-8
-unfolding mountRow
+unfolding mount_row
 returns-8 c =
     c.none.ensures ∙
-    none-for no_row mountRow c.before.before.args.verb
+    none_for no_row mount_row c.before.before.args.verb
     (Keepout ∷ Solve ∷ Construct ∷ Goals ∷ Query ∷ Tables ∷ Other ∷ [])
     refl
     c.before.match.keys8

@@ -3,8 +3,8 @@ use mathlib.Core.Path.{refl, ◌∙◌}
 use mathlib.Core.List.{[], ◌∷◌}
 use borrow.Author.Rules.{rules}
 use Rattle.grammar.specs.declared.Verb.TheVariants.{Solve, Distance, Between, Steer, Valid, Steps, Motion, Other}
-use Rattle.grammar.specs.Rows.{no_row, prmRow}
-use Rattle.grammar.proofs.Others.{none-for}
+use Rattle.grammar.specs.Rows.{no_row, prm_row}
+use Rattle.grammar.proofs.Others.{none_for}
 use Rattle.grammar.proofs.Row.of_prm.Statement.{statement}
 use Rattle.grammar.proofs.Row.of_prm.Tie as tie
 
@@ -48,34 +48,34 @@ none-requires : tie.Need-none-requires
 none-requires c κs = search rules
 
 returns : tie.Need-returns
-unfolding prmRow
+unfolding prm_row
 returns c = rw c.before.enum_told.given.1 c.setup.ensures
 
 returns-2 : tie.Need-returns-2
-unfolding prmRow
+unfolding prm_row
 returns-2 c = rw c.before.enum-told2.given.1 c.of-keep-out.ensures
 
 returns-3 : tie.Need-returns-3
-unfolding prmRow
+unfolding prm_row
 returns-3 c = rw c.before.enum-told3.given.1 c.of-list.ensures
 
 returns-4 : tie.Need-returns-4
-unfolding prmRow
+unfolding prm_row
 returns-4 c = rw c.before.enum-told4.given.1 c.of-numbers.ensures
 
 returns-5 : tie.Need-returns-5
-unfolding prmRow
+unfolding prm_row
 returns-5 c = rw c.before.enum-told5.given.1 c.of-list2.ensures
 
 returns-6 : tie.Need-returns-6
-unfolding prmRow
+unfolding prm_row
 returns-6 c = rw c.before.enum-told6.given.1 c.of-numbers2.ensures
 
 returns-7 : tie.Need-returns-7
-unfolding prmRow
+unfolding prm_row
 returns-7 c =
     c.none.ensures ∙
-    none-for no_row prmRow c.before.before.args.verb
+    none_for no_row prm_row c.before.before.args.verb
     (Solve ∷ Distance ∷ Between ∷ Steer ∷ Valid ∷ Steps ∷ Motion ∷ Other ∷ [])
     refl
     c.before.match.keys7

@@ -3,8 +3,8 @@ use mathlib.Core.Path.{refl, ◌∙◌}
 use mathlib.Core.List.{[], ◌∷◌}
 use borrow.Author.Rules.{rules}
 use Rattle.grammar.specs.declared.Verb.TheVariants.{Construct, Goals, Query, Distance, Between, Steer, Valid, Steps, Motion, Other}
-use Rattle.grammar.specs.Rows.{no_row, treeRow}
-use Rattle.grammar.proofs.Others.{none-for}
+use Rattle.grammar.specs.Rows.{no_row, tree_row}
+use Rattle.grammar.proofs.Others.{none_for}
 use Rattle.grammar.proofs.Row.of_tree.Statement.{statement}
 use Rattle.grammar.proofs.Row.of_tree.Tie as tie
 
@@ -36,26 +36,26 @@ none-requires : tie.Need-none-requires
 none-requires c κs = search rules
 
 returns : tie.Need-returns
-unfolding treeRow
+unfolding tree_row
 returns c = rw c.before.enum_told.given.1 c.setup.ensures
 
 returns-2 : tie.Need-returns-2
-unfolding treeRow
+unfolding tree_row
 returns-2 c = rw c.before.enum-told2.given.1 c.of-keep-out.ensures
 
 returns-3 : tie.Need-returns-3
-unfolding treeRow
+unfolding tree_row
 returns-3 c = rw c.before.enum-told3.given.1 c.of-list.ensures
 
 returns-4 : tie.Need-returns-4
-unfolding treeRow
+unfolding tree_row
 returns-4 c = rw c.before.enum-told4.given.1 c.of-numbers.ensures
 
 returns-5 : tie.Need-returns-5
-unfolding treeRow
+unfolding tree_row
 returns-5 c =
     c.none.ensures ∙
-    none-for no_row (treeRow _) c.before.before.args.verb
+    none_for no_row (tree_row _) c.before.before.args.verb
     (Construct ∷ Goals ∷ Query ∷ Distance ∷ Between ∷ Steer ∷ Valid ∷ Steps ∷ Motion ∷ Other ∷ [])
     refl
     c.before.match.keys5

@@ -1,11 +1,11 @@
 -- `input::Input::new` meets its contract.
 use mathlib.Core.Path.{refl}
-use Rattle.input.specs.Input.{newOf}
+use Rattle.input.specs.Input.{new_of}
 use Rattle.input.proofs.Input.new.Statement.{statement}
 use Rattle.input.proofs.Input.new.Tie as tie
 
 returns : tie.Need-returns
-unfolding newOf
+unfolding new_of
 returns c = refl
 
 pub new_spec : {M : Type 1} → statement M

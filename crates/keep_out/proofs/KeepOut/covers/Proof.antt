@@ -1,5 +1,5 @@
 -- `keep_out::KeepOut::covers` meets its contract.
-use Rattle.keep_out.specs.Covers.{coversOf}
+use Rattle.keep_out.specs.Covers.{covers_of}
 use borrow.Author.Rules.{rules}
 use Rattle.keep_out.proofs.KeepOut.covers.Statement.{statement}
 use Rattle.keep_out.proofs.KeepOut.covers.Tie as tie
@@ -17,15 +17,15 @@ enum-known-self-3 : tie.Need-enum-known-self-3
 enum-known-self-3 c = search rules
 
 returns : tie.Need-returns
-unfolding coversOf
+unfolding covers_of
 returns c = rw c.before.before.self.given.1 c.within.ensures
 
 returns-2 : tie.Need-returns-2
-unfolding coversOf
+unfolding covers_of
 returns-2 c = rw c.before.before.before.self2.given.1
 
 returns-3 : tie.Need-returns-3
-unfolding coversOf
+unfolding covers_of
 returns-3 c = rw c.before.before.self3.given.1
 
 pub covers-spec : {M : Type 1} → statement M

@@ -1,5 +1,5 @@
 -- `keep_out::KeepOut::is_good` meets its contract.
-use Rattle.keep_out.specs.Good.{goodKeepOut}
+use Rattle.keep_out.specs.Good.{good_keep_out}
 use borrow.Author.Rules.{rules}
 use Rattle.keep_out.proofs.KeepOut.is_good.Statement.{statement}
 use Rattle.keep_out.proofs.KeepOut.is_good.Tie as tie
@@ -23,15 +23,15 @@ is-coordinate-requires : tie.Need-is-coordinate-requires
 is-coordinate-requires c κs = search rules
 
 returns : tie.Need-returns
-unfolding goodKeepOut
+unfolding good_keep_out
 returns c = rw c.before.before.self.given.1 c.spans.ensures
 
 returns-2 : tie.Need-returns-2
-unfolding goodKeepOut
+unfolding good_keep_out
 returns-2 c = rw c.before.before.self2.given.1 c.is-disc.ensures
 
 returns-3 : tie.Need-returns-3
-unfolding goodKeepOut
+unfolding good_keep_out
 returns-3 c = rw c.before.before.self3.given.1 c.is-coordinate.ensures
 
 pub is-good-spec : {M : Type 1} → statement M

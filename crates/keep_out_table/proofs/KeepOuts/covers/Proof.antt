@@ -7,16 +7,16 @@ use native.Mathlib.Omega.{arith}
 use borrow.Author.Rules.{rules}
 use lib.ListN.{length, take, drop, get_or}
 use Rattle.laws.specs.Cases.{or_left, or_right}
-use Rattle.laws.specs.Rest.{mapped, Left, left-more, left-none, take-most}
-use Rattle.keep_out.specs.Covers.{coveredOf}
-use Rattle.keep_out_table.specs.Table.{held_of, keepOutsOf}
+use Rattle.laws.specs.Rest.{mapped, Left, left_more, left_none, take_most}
+use Rattle.keep_out.specs.Covers.{covered_of}
+use Rattle.keep_out_table.specs.Table.{held_of, keep_outs_of}
 use Rattle.keep_out_table.specs.declared.Slot.{Slot}
 use Rattle.keep_out_table.proofs.KeepOuts.covers.Statement.{statement}
 use Rattle.keep_out_table.proofs.KeepOuts.covers.Tie as tie
 
 abbrev invariant-slots : tie.invariant-slots
 invariant-slots s self count n i₀ i =
-    (i ≤ n) × (n ≤ 32) × (take count self.slots ≡ take n self.slots) × Left (λ (l : List Slot). coveredOf (map held_of l) s) n self.slots i
+    (i ≤ n) × (n ≤ 32) × (take count self.slots ≡ take n self.slots) × Left (λ (l : List Slot). covered_of (map held_of l) s) n self.slots i
 
 abbrev decreases-slots : tie.decreases-slots
 decreases-slots s self count n i₀ i = n - i
@@ -31,10 +31,10 @@ more :
     let a = c.before.before.before.args in
     let n = c.before.before.rows_of_lem.result in
     let i = c.before.slots.i in
-    coveredOf (map held_of (take n a.t1.slots)) a.s ≡ coveredOf (map held_of (get_or a.t1.slots i d ∷ drop (i + 1) (take n a.t1.slots))) a.s
+    covered_of (map held_of (take n a.t1.slots)) a.s ≡ covered_of (map held_of (get_or a.t1.slots i d ∷ drop (i + 1) (take n a.t1.slots))) a.s
 more c d =
     let start = c.before.before.before in
-    left-more (λ (l : List Slot). coveredOf (map held_of l) start.args.s) c.before.before.rows_of_lem.result start.args.t1.slots c.before.slots.i d
+    left_more (λ (l : List Slot). covered_of (map held_of l) start.args.s) c.before.before.rows_of_lem.result start.args.t1.slots c.before.slots.i d
     c.slots-test.true (omega (arith, sized start)) c.before.slots.invariant.3
 
 rows-of-requires : tie.Need-rows-of-requires invariant-slots decreases-slots
@@ -43,7 +43,7 @@ rows-of-requires c κs = search rules
 slots-holds : tie.Need-slots-init invariant-slots decreases-slots
 slots-holds c = let start = c.before in
     let e : c.rows_of_lem.result ≡ min start.args.t1.count 32 = c.rows_of_lem.ensures in
-    (omega arith, omega arith, take-most _ 32 _ _ (sized start) e, refl)
+    (omega arith, omega arith, take_most _ 32 _ _ (sized start) e, refl)
 
 mul-slot : tie.Need-overflow-mul-slot invariant-slots decreases-slots
 mul-slot c = omega arith
@@ -55,12 +55,12 @@ covers-requires : tie.Need-covers-requires invariant-slots decreases-slots
 covers-requires c κs = search rules
 
 returns : tie.Need-returns invariant-slots decreases-slots
-unfolding coveredOf keepOutsOf
+unfolding covered_of keep_outs_of
 returns c =
     let turn = c.before.before.before in
     let start = turn.before.before.before in
     sym
-    (ap (λ (l : List Slot). coveredOf (map held_of l) start.args.s) turn.before.slots.invariant.2
+    (ap (λ (l : List Slot). covered_of (map held_of l) start.args.s) turn.before.slots.invariant.2
     ∙ more turn _ ∙ or_left _ _ (sym c.before.covers.ensures ∙ c.if1.true))
 
 add-i : tie.Need-overflow-add-i invariant-slots decreases-slots
@@ -70,19 +70,19 @@ slots-less : tie.Need-slots-smaller invariant-slots decreases-slots
 slots-less c = omega arith
 
 slots-again : tie.Need-slots-preserved invariant-slots decreases-slots
-unfolding coveredOf
+unfolding covered_of
 slots-again c =
     let turn = c.before.before.before in
     let h = turn.before.slots.invariant in
     (omega arith, h.1, h.2, more turn _ ∙ or_right _ _ (sym c.before.covers.ensures ∙ c.if1.false))
 
 returns-2 : tie.Need-returns-2 invariant-slots decreases-slots
-unfolding coveredOf keepOutsOf
+unfolding covered_of keep_outs_of
 returns-2 c =
     let h = c.before.slots.invariant in
     let start = c.before.before.before in
-    let f : List Slot → Bool = λ l. coveredOf (map held_of l) start.args.s in
-    sym (ap f h.2 ∙ left-none f _ _ _ c.slots-test.false h.3)
+    let f : List Slot → Bool = λ l. covered_of (map held_of l) start.args.s in
+    sym (ap f h.2 ∙ left_none f _ _ _ c.slots-test.false h.3)
 
 pub covers-spec : {M : Type 1} → statement M
 covers-spec =

@@ -1,6 +1,6 @@
 -- `keep_out_table::KeepOuts::with` meets its contract.
 use borrow.Author.Tests.{lt-ltb, le-ltb}
-use Rattle.keep_out_table.specs.Table.{withOf}
+use Rattle.keep_out_table.specs.Table.{with_of}
 use borrow.Author.Rules.{rules}
 use Rattle.keep_out_table.proofs.KeepOuts.with.Statement.{statement}
 use Rattle.keep_out_table.proofs.KeepOuts.with.Tie as tie
@@ -15,11 +15,11 @@ add-table : tie.Need-overflow-add-table
 add-table c = search rules
 
 returns : tie.Need-returns
-unfolding withOf
+unfolding with_of
 returns c = simp (lt-ltb _ _ c.if1.true)
 
 returns-2 : tie.Need-returns-2
-unfolding withOf
+unfolding with_of
 returns-2 c = simp (le-ltb _ _ c.if1.false)
 
 pub with-spec : {M : Type 1} → statement M

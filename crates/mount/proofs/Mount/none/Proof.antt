@@ -1,6 +1,6 @@
 -- `mount::Mount::none` meets its contract.
 use borrow.Author.Rules.{rules}
-use Rattle.mount.specs.None.{noMount}
+use Rattle.mount.specs.None.{no_mount}
 use Rattle.mount.proofs.Mount.none.Statement.{statement}
 use Rattle.mount.proofs.Mount.none.Tie as tie
 
@@ -8,7 +8,7 @@ new-requires : tie.Need-new-requires
 new-requires c κs = search rules
 
 returns : tie.Need-returns
-unfolding noMount
+unfolding no_mount
 returns c = rw c.new.ensures
 
 pub none_spec : {M : Type 1} → statement M

@@ -1,6 +1,6 @@
 -- `prm::Prm::add_keep_out` meets its contract.
 use borrow.Author.Rules.{rules}
-use Rattle.prm.proofs.Adds.{add-unset, add-refused, add_done}
+use Rattle.prm.proofs.Adds.{add_unset, add_refused, add_done}
 use Rattle.prm.proofs.Prm.add_keep_out.Statement.{statement}
 use Rattle.prm.proofs.Prm.add_keep_out.Tie as tie
 
@@ -23,10 +23,10 @@ returns c =
 returns-2 : tie.Need-returns-2
 returns-2 c =
     let more = c.before.before.before in
-    add-refused _ _ more.before.if1.true more.with-keep-out.result more.with-keep-out.ensures _ c.before.number.ensures c.if2.false
+    add_refused _ _ more.before.if1.true more.with-keep-out.result more.with-keep-out.ensures _ c.before.number.ensures c.if2.false
 
 returns-3 : tie.Need-returns-3
-returns-3 c = add-unset _ _ c.if1.false
+returns-3 c = add_unset _ _ c.if1.false
 
 pub add-keep-out-spec : {M : Type 1} → statement M
 add-keep-out-spec =

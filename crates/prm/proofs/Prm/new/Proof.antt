@@ -1,5 +1,5 @@
 -- `prm::Prm::new` meets its contract.
-use Rattle.prm.proofs.Views.{view-unset}
+use Rattle.prm.proofs.Views.{view_unset}
 use borrow.Author.Rules.{rules}
 use Rattle.prm.proofs.Prm.new.Statement.{statement}
 use Rattle.prm.proofs.Prm.new.Tie as tie
@@ -11,7 +11,7 @@ empty-requires : tie.Need-empty-requires
 empty-requires c κs = search rules
 
 returns : tie.Need-returns
-returns c = view-unset _ c.before.none.ensures
+returns c = view_unset _ c.before.none.ensures
 
 pub new_spec : {M : Type 1} → statement M
 new_spec = tie.close (tie.spec none-requires empty-requires returns)

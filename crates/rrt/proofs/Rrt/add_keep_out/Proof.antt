@@ -2,11 +2,11 @@
 use mathlib.Core.Bool.{Bool}
 use mathlib.Core.Path.{refl, sym, ◌∙◌}
 use borrow.Author.Rules.{rules}
-use Rattle.tree.specs.Table.{nodesOf}
-use Rattle.plan.specs.Plan.{Plan, planUnder}
-use Rattle.plan.specs.Setup.{usableOf}
-use Rattle.plan.proofs.Adding.{add-unset, add-set}
-use Rattle.rrt.specs.Planner.{plannerOf, addOf}
+use Rattle.tree.specs.Table.{nodes_of}
+use Rattle.plan.specs.Plan.{Plan, plan_under}
+use Rattle.plan.specs.Setup.{usable_of}
+use Rattle.plan.proofs.Adding.{add_unset, add_set}
+use Rattle.rrt.specs.Planner.{planner_of, add_of}
 use Rattle.rrt.proofs.Rrt.add_keep_out.Statement.{statement}
 use Rattle.rrt.proofs.Rrt.add_keep_out.Tie as tie
 
@@ -17,16 +17,16 @@ with-keep-out-requires : tie.Need-with-keep-out-requires
 with-keep-out-requires c κs = search rules
 
 returns : tie.Need-returns
-unfolding plannerOf addOf
+unfolding planner_of add_of
 returns c =
     let more = c.before in
     let test = more.before in
     let tree = test.before.before.before.args.self.tree in
-    add-set (λ (q : Plan). q.keepOuts) planUnder (nodesOf tree) _ (λ (q : Plan). q) (λ q. refl) (λ q ks. refl) (λ (ready : Bool). usableOf ready tree.count) _ (sym test.before.is-usable.ensures ∙ test.if1.true) more.with-keep-out.result more.with-keep-out.ensures
+    add_set (λ (q : Plan). q.keep_outs) plan_under (nodes_of tree) _ (λ (q : Plan). q) (λ q. refl) (λ q ks. refl) (λ (ready : Bool). usable_of ready tree.count) _ (sym test.before.is-usable.ensures ∙ test.if1.true) more.with-keep-out.result more.with-keep-out.ensures
 
 returns-2 : tie.Need-returns-2
-unfolding plannerOf addOf
-returns-2 c = add-unset _ _ _ _ _ _ (sym c.before.is-usable.ensures ∙ c.if1.false)
+unfolding planner_of add_of
+returns-2 c = add_unset _ _ _ _ _ _ (sym c.before.is-usable.ensures ∙ c.if1.false)
 
 pub add-keep-out-spec : {M : Type 1} → statement M
 add-keep-out-spec =

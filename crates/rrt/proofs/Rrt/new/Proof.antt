@@ -1,7 +1,7 @@
 -- `rrt::Rrt::new` meets its contract.
-use Rattle.plan.proofs.Usable.{usable-no}
-use Rattle.plan.proofs.Views.{view-unset}
-use Rattle.rrt.specs.Planner.{plannerOf}
+use Rattle.plan.proofs.Usable.{usable_no}
+use Rattle.plan.proofs.Views.{view_unset}
+use Rattle.rrt.specs.Planner.{planner_of}
 use mathlib.Core.Path.{sym}
 use borrow.Author.Rules.{rules}
 use Rattle.rrt.proofs.Rrt.new.Statement.{statement}
@@ -14,8 +14,8 @@ rooted-requires : tie.Need-rooted-requires
 rooted-requires c κs = search rules
 
 returns : tie.Need-returns
-unfolding plannerOf
-returns c = view-unset _ _ _ (sym (usable-no _ _ c.before.none.ensures))
+unfolding planner_of
+returns c = view_unset _ _ _ (sym (usable_no _ _ c.before.none.ensures))
 
 pub new_spec : {M : Type 1} → statement M
 new_spec = tie.close (tie.spec none-requires rooted-requires returns)

@@ -2,9 +2,9 @@
 use mathlib.Core.Bool.{Bool}
 use mathlib.Core.Path.{refl, sym, ◌∙◌}
 use borrow.Author.Rules.{rules}
-use Rattle.plan.specs.Plan.{Plan, planUnder}
-use Rattle.plan.proofs.Adding.{add-unset, add-set}
-use Rattle.rrt_connect.specs.Planner.{usableOf, treesOf, plannerOf, addOf}
+use Rattle.plan.specs.Plan.{Plan, plan_under}
+use Rattle.plan.proofs.Adding.{add_unset, add_set}
+use Rattle.rrt_connect.specs.Planner.{usable_of, trees_of, planner_of, add_of}
 use Rattle.rrt_connect.proofs.RrtConnect.add_keep_out.Statement.{statement}
 use Rattle.rrt_connect.proofs.RrtConnect.add_keep_out.Tie as tie
 
@@ -15,16 +15,16 @@ with-keep-out-requires : tie.Need-with-keep-out-requires
 with-keep-out-requires c κs = search rules
 
 returns : tie.Need-returns
-unfolding plannerOf addOf treesOf
+unfolding planner_of add_of trees_of
 returns c =
     let more = c.before in
     let test = more.before in
     let p = test.before.before.before.args.self in
-    add-set (λ (q : Plan). q.keepOuts) planUnder (treesOf p) _ (λ (q : Plan). q) (λ q. refl) (λ q ks. refl) (λ (ready : Bool). usableOf ready p.start_tree.count p.goal_tree.count) _ (sym test.before.usable.ensures ∙ test.if1.true) more.with-keep-out.result more.with-keep-out.ensures
+    add_set (λ (q : Plan). q.keep_outs) plan_under (trees_of p) _ (λ (q : Plan). q) (λ q. refl) (λ q ks. refl) (λ (ready : Bool). usable_of ready p.start_tree.count p.goal_tree.count) _ (sym test.before.usable.ensures ∙ test.if1.true) more.with-keep-out.result more.with-keep-out.ensures
 
 returns-2 : tie.Need-returns-2
-unfolding plannerOf addOf
-returns-2 c = add-unset _ _ _ _ _ _ (sym c.before.usable.ensures ∙ c.if1.false)
+unfolding planner_of add_of
+returns-2 c = add_unset _ _ _ _ _ _ (sym c.before.usable.ensures ∙ c.if1.false)
 
 pub add-keep-out-spec : {M : Type 1} → statement M
 add-keep-out-spec =

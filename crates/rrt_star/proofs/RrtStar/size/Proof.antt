@@ -1,5 +1,5 @@
 -- `rrt_star::RrtStar::size` meets its contract.
-use Rattle.rrt_star.proofs.Views.{size-set, size-unset}
+use Rattle.rrt_star.proofs.Views.{size_set, size_unset}
 use mathlib.Core.Path.{sym, ◌∙◌}
 use borrow.Author.Rules.{rules}
 use Rattle.rrt_star.proofs.RrtStar.size.Statement.{statement}
@@ -9,10 +9,10 @@ is-usable-requires : tie.Need-is-usable-requires
 is-usable-requires c κs = search rules
 
 returns : tie.Need-returns
-returns c = size-set _ (sym c.before.is-usable.ensures ∙ c.if1.true)
+returns c = size_set _ (sym c.before.is-usable.ensures ∙ c.if1.true)
 
 returns-2 : tie.Need-returns-2
-returns-2 c = size-unset _ (sym c.before.is-usable.ensures ∙ c.if1.false)
+returns-2 c = size_unset _ (sym c.before.is-usable.ensures ∙ c.if1.false)
 
 pub size-spec : {M : Type 1} → statement M
 size-spec = tie.close (tie.spec is-usable-requires returns returns-2)

@@ -1,5 +1,5 @@
 -- `state::State::is_coordinate` meets its contract.
-use Rattle.state.specs.Ranges.{coordinateOf}
+use Rattle.state.specs.Ranges.{coordinate_of}
 use borrow.Author.Rules.{rules}
 use Rattle.state.proofs.State.is_coordinate.Statement.{statement}
 use Rattle.state.proofs.State.is_coordinate.Tie as tie
@@ -8,7 +8,7 @@ inside-requires : tie.Need-inside-requires
 inside-requires c κs = search rules
 
 returns : tie.Need-returns
-unfolding coordinateOf
+unfolding coordinate_of
 returns c = c.inside.ensures
 
 pub is-coordinate-spec : {M : Type 1} → statement M

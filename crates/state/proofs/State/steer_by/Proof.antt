@@ -1,5 +1,5 @@
 -- `state::State::steer_by` meets its contract.
-use Rattle.state.specs.Steering.{steerBy}
+use Rattle.state.specs.Steering.{steer_by_of}
 use borrow.Author.Rules.{rules}
 use Rattle.state.proofs.State.steer_by.Statement.{statement}
 use Rattle.state.proofs.State.steer_by.Tie as tie
@@ -8,11 +8,11 @@ interpolate-requires : tie.Need-interpolate-requires
 interpolate-requires c κs = search rules
 
 returns : tie.Need-returns
-unfolding steerBy
+unfolding steer_by_of
 returns c = rw c.before.if1.true c.interpolate.ensures
 
 returns-2 : tie.Need-returns-2
-unfolding steerBy
+unfolding steer_by_of
 returns-2 c = rw c.if1.false
 
 pub steer-by-spec : {M : Type 1} → statement M

@@ -7,20 +7,20 @@ use native.Mathlib.Omega.{arith}
 use lib.ListN.{length, drop}
 use Prim.Native.Nat.{◌≤◌, ◌<◌, ◌-◌, ◌^◌}
 use mathlib.Core.Path.{◌≡◌, sym, ap, ◌∙◌}
-use Rattle.numeral.proofs.Bands.{below-sixteen}
-use Rattle.words.specs.Number.{hexWord, bitsFrom}
-use Rattle.words.proofs.Patterns.{not-sixteen, sixteen, left-digit, left-bad, left-value, grown}
+use Rattle.numeral.proofs.Bands.{below_sixteen}
+use Rattle.words.specs.Number.{hex_word, bits_from}
+use Rattle.words.proofs.Patterns.{not_sixteen, sixteen, left_digit, left_bad, left_value, grown}
 use Rattle.words.proofs.number.bits.Statement.{statement}
 use Rattle.words.proofs.number.bits.Tie as tie
 
 abbrev invariant-loop : tie.invariant-loop
-invariant-loop word bits₀ i₀ bits i = (length word ≡ 17) × (1 ≤ i) × (i ≤ 17) × (bits < 16 ^ (i - 1)) × (hexWord (drop 1 word) ≡ bitsFrom bits (drop i word))
+invariant-loop word bits₀ i₀ bits i = (length word ≡ 17) × (1 ≤ i) × (i ≤ 17) × (bits < 16 ^ (i - 1)) × (hex_word (drop 1 word) ≡ bits_from bits (drop i word))
 
 abbrev decreases-loop : tie.decreases-loop
 decreases-loop word bits₀ i₀ bits i = 17 - i
 
 returns : tie.Need-returns invariant-loop decreases-loop
-returns c = not-sixteen c.before.before.args.word.now c.if1.true
+returns c = not_sixteen c.before.before.args.word.now c.if1.true
 
 loop-holds : tie.Need-loop-init invariant-loop decreases-loop
 loop-holds c = (search rules, search rules, search rules, lit< tt, sixteen c.before.before.args.word.now (omega arith))
@@ -40,13 +40,13 @@ enum_told c = search rules
 returns-2 : tie.Need-returns-2 invariant-loop decreases-loop
 returns-2 c =
     let h : c.before.before.before.before.before.loop.i < length c.before.before.before.before.before.before.before.before.args.word.now = omega arith in
-    left-bad _ _ _ c.before.before.before.before.before.loop.invariant.4 h (sym c.before.before.hex-digit.ensures ∙ c.enum_told.given.1)
+    left_bad _ _ _ c.before.before.before.before.before.loop.invariant.4 h (sym c.before.before.hex-digit.ensures ∙ c.enum_told.given.1)
 
 mul-bits : tie.Need-overflow-mul-bits invariant-loop decreases-loop
 mul-bits c = search rules
 
 add-bits : tie.Need-overflow-add-bits invariant-loop decreases-loop
-add-bits c = omega (arith, below-sixteen _ _ (sym c.before.before.before.hex-digit.ensures ∙ c.before.digit.given.1))
+add-bits c = omega (arith, below_sixteen _ _ (sym c.before.before.before.hex-digit.ensures ∙ c.before.digit.given.1))
 
 add-i : tie.Need-overflow-add-i invariant-loop decreases-loop
 add-i c = search rules
@@ -58,7 +58,7 @@ loop-again : tie.Need-loop-preserved invariant-loop decreases-loop
 loop-again c =
     let e = sym c.before.before.before.hex-digit.ensures ∙ c.before.digit.given.1 in
     let at = c.before.before.before.before.before.before.loop in
-    (omega arith, omega arith, omega arith, grown _ _ _ at.invariant.3 (below-sixteen _ _ e) at.invariant.1, left-digit _ _ _ at.invariant.4 _ (omega arith) e at.invariant.3 (omega arith))
+    (omega arith, omega arith, omega arith, grown _ _ _ at.invariant.3 (below_sixteen _ _ e) at.invariant.1, left_digit _ _ _ at.invariant.4 _ (omega arith) e at.invariant.3 (omega arith))
 
 from-bits-requires : tie.Need-from-bits-requires invariant-loop decreases-loop
 from-bits-requires c κs = search rules
@@ -66,7 +66,7 @@ from-bits-requires c κs = search rules
 returns-3 : tie.Need-returns-3 invariant-loop decreases-loop
 returns-3 c =
     let h : c.before.before.loop.i ≡ length c.before.before.before.before.before.args.word.now = omega arith in
-    ap Good c.from-bits.ensures ∙ left-value _ _ _ c.before.before.loop.invariant.4 h
+    ap Good c.from-bits.ensures ∙ left_value _ _ _ c.before.before.loop.invariant.4 h
 
 pub bits-spec : {M : Type 1} → statement M
 bits-spec =

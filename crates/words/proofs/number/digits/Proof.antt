@@ -4,7 +4,7 @@ use native.Mathlib.Omega.{arith}
 use borrow.Author.Rules.{rules}
 use lib.ListN.{length}
 use Prim.Native.Nat.{◌≤◌, ◌-◌}
-use Rattle.words.proofs.Runs.{Left, left-all, left_less, at-end, at_other, at-digit, digit, under, over}
+use Rattle.words.proofs.Runs.{Left, left_all, left_less, at_end, at_other, at_digit, digit, under, over}
 use Rattle.words.proofs.number.digits.Statement.{statement}
 use Rattle.words.proofs.number.digits.Tie as tie
 
@@ -15,7 +15,7 @@ abbrev decreases-loop : tie.decreases-loop
 decreases-loop word from before value₀ i₀ value i = length word - i
 
 loop-holds : tie.Need-loop-init invariant-loop decreases-loop
-loop-holds c = (search rules, search rules, left-all _ _ _)
+loop-holds c = (search rules, search rules, left_all _ _ _)
 
 shared-slice-read-byte : tie.Need-shared-slice-read-byte invariant-loop decreases-loop
 shared-slice-read-byte c = search rules
@@ -42,7 +42,7 @@ loop-again c =
 
 returns : tie.Need-returns invariant-loop decreases-loop
 returns c =
-    at-digit _ _ _ _ _ c.before.before.before.before.before.loop.invariant.2 (omega arith) (omega arith) (digit _ (omega arith) (omega arith)) (omega arith)
+    at_digit _ _ _ _ _ c.before.before.before.before.before.loop.invariant.2 (omega arith) (omega arith) (digit _ (omega arith) (omega arith)) (omega arith)
 
 returns-2 : tie.Need-returns-2 invariant-loop decreases-loop
 returns-2 c =
@@ -52,7 +52,7 @@ returns-3 : tie.Need-returns-3 invariant-loop decreases-loop
 returns-3 c = at_other _ _ _ _ _ c.before.before.before.loop.invariant.2 (omega arith) (omega arith) (under _ (omega arith))
 
 returns-4 : tie.Need-returns-4 invariant-loop decreases-loop
-returns-4 c = at-end _ _ _ _ _ c.before.loop.invariant.2 (omega arith) (omega arith) (omega arith)
+returns-4 c = at_end _ _ _ _ _ c.before.loop.invariant.2 (omega arith) (omega arith) (omega arith)
 
 pub digits-spec : {M : Type 1} → statement M
 digits-spec =
