@@ -1,8 +1,10 @@
 // What a call answers (document 01, "Sizes and answers").
+#![tactic(auto)]
+
 ghost use Rattle.std.specs.Prelude.{◌≡◌};
 ghost use Rattle.answer.specs.Number.{number_of};
 
-#[derive(Drop)]
+#[derive(Clone, Copy)]
 pub enum Answer {
     // The call did what it says; a route is in the buffer where one was asked for.
     Done,

@@ -1,4 +1,6 @@
 // The choice of a new node's parent (document 01, "RRT*"): the one that costs least.
+#![tactic(auto)]
+
 ghost use Rattle.std.specs.Prelude.{◌≡◌, ◌≤◌, ◌<◌, length, take};
 ghost use Rattle.columns.specs.Columns.{columns_of};
 ghost use Rattle.tree.specs.Table.{states_of};
@@ -9,7 +11,7 @@ use fields::Limits;
 use state::State;
 
 // A new node's parent, and what the node then costs.
-#[derive(Drop)]
+#[derive(Clone, Copy)]
 pub struct Choice {
     pub parent: usize,
     pub cost: f64,

@@ -1,5 +1,7 @@
 // The keep-outs of a table as columns of plain numbers. A table of enums can only be passed by value, a copy of 1.8 KB a call;
 // columns are lent, so a planner spreads its table once a call, and the motion check reads it without a copy.
+#![tactic(auto)]
+
 ghost use Rattle.std.specs.Prelude.{◌≡◌, ◌<◌};
 ghost use Rattle.columns.specs.Rows.{row_of, keep_out_at_of};
 ghost use Rattle.columns.specs.Columns.{Spread};
@@ -9,7 +11,7 @@ use keep_out_table::KeepOuts;
 use state::State;
 
 // A keep-out as the number of its kind (0 box, 1 disc, 2 floor) and six numbers, of which a disc uses three and a floor one.
-#[derive(Drop)]
+#[derive(Clone, Copy)]
 pub struct Row {
     pub kind: u8,
     pub a: f64,
@@ -21,7 +23,7 @@ pub struct Row {
 }
 
 // Six numbers to a keep-out.
-#[derive(Drop)]
+#[derive(Clone, Copy)]
 pub struct Columns {
     pub kinds: [u8; 32],
     pub numbers: [f64; 192],

@@ -1,4 +1,6 @@
 // A run over a list of samples (document 01, "RRT-Connect"): each makes a round, until one ends the run or the list is used up.
+#![tactic(auto)]
+
 ghost use Rattle.std.specs.Prelude.{◌≤◌, ◌<◌, length};
 ghost use Rattle.connect_run.specs.Run.{Runs};
 
@@ -10,7 +12,7 @@ use state::State;
 use tree::Tree;
 
 // How a run over the samples ended.
-#[derive(Drop)]
+#[derive(Clone, Copy)]
 pub struct Ran {
     pub start: Tree,
     pub goal: Tree,

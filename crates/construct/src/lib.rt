@@ -1,4 +1,6 @@
 // The construction of a roadmap of samples (document 01, "PRM construction").
+#![tactic(auto)]
+
 ghost use Rattle.std.specs.Prelude.{◌≡◌, ℕ, ◌<◌, length};
 ghost use Rattle.keep_out_table.specs.Table.{keep_outs_of};
 ghost use Rattle.columns.specs.Columns.{columns_of};
@@ -17,7 +19,7 @@ use roadmap::Roadmap;
 use state::State;
 
 // How a construction ended.
-#[derive(Drop)]
+#[derive(Clone, Copy)]
 pub struct Built {
     pub map: Roadmap,
     pub answer: Answer,

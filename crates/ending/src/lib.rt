@@ -1,4 +1,6 @@
 // What a sample led to (document 01, "RRT-Connect"), as an answer and as a route.
+#![tactic(auto)]
+
 ghost use Rattle.std.specs.Prelude.{◌≡◌, ◌≤◌, ◌<◌, length};
 ghost use Rattle.turn.specs.Turn.{columns_at};
 ghost use Rattle.turn.specs.Trees.{trees_at};

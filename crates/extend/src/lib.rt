@@ -1,4 +1,6 @@
 // One step of a tree toward a target, appended in place (document 01, "RRT-Connect").
+#![tactic(auto)]
+
 ghost use Rattle.std.specs.Prelude.{◌≤◌, ◌<◌};
 ghost use Rattle.columns.specs.Columns.{columns_of};
 ghost use Rattle.tree.specs.Table.{nodes_in};
@@ -8,7 +10,7 @@ use fields::Limits;
 use state::State;
 use tree::Tree;
 
-#[derive(Drop)]
+#[derive(Clone, Copy)]
 pub enum Verdict {
     // The motion is not accepted.
     Refused,
@@ -18,7 +20,7 @@ pub enum Verdict {
     Added,
 }
 
-#[derive(Drop)]
+#[derive(Clone, Copy)]
 pub struct Extended {
     pub verdict: Verdict,
     // The new state, and whether that is the target itself.

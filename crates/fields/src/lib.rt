@@ -1,5 +1,7 @@
 // What a setup gives beside keep-outs and start (document 01, "The mount"): limits, lengths and the goal, with the ranges that they are taken from.
 // Each type has a constructor that refuses bad numbers, and `is_good`, which says the same of a value that somebody else made.
+#![tactic(auto)]
+
 ghost use Rattle.std.specs.Prelude.{◌≡◌};
 ghost use Rattle.fields.specs.Ranges.{good_limits, good_length, good_goal};
 ghost use Rattle.fields.specs.Made.{limits_of, length_of, goal_of};
@@ -8,13 +10,13 @@ ghost use Rattle.fields.specs.Satisfied.{satisfied_of};
 use state::State;
 
 // The mount's limits, low at most high on each axis.
-#[derive(Drop)]
+#[derive(Clone, Copy)]
 pub struct Limits {
     pub low: State,
     pub high: State,
 }
 
-#[derive(Drop)]
+#[derive(Clone, Copy)]
 pub enum LimitsMade {
     Good(Limits),
     Bad,
@@ -39,12 +41,12 @@ impl Limits {
 }
 
 // A segment length, max_distance, search_radius or connection_radius.
-#[derive(Drop)]
+#[derive(Clone, Copy)]
 pub struct Length {
     pub value: f64,
 }
 
-#[derive(Drop)]
+#[derive(Clone, Copy)]
 pub enum LengthMade {
     Good(Length),
     Bad,
@@ -73,13 +75,13 @@ impl Length {
 }
 
 // Where a route is to end: near enough to the centre.
-#[derive(Drop)]
+#[derive(Clone, Copy)]
 pub struct Goal {
     pub centre: State,
     pub radius: f64,
 }
 
-#[derive(Drop)]
+#[derive(Clone, Copy)]
 pub enum GoalMade {
     Good(Goal),
     Bad,

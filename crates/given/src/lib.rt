@@ -1,4 +1,6 @@
 // What the numbers of a script's line, or of a host's setup, stand for. The place is that of the first number.
+#![tactic(auto)]
+
 ghost use Rattle.std.specs.Prelude.{◌≡◌, ◌+◌};
 ghost use Rattle.given.specs.Given.{number_at, length_at, state_at, goal_at, limits_in, fields_in_of, first_in};
 
@@ -73,7 +75,7 @@ pub fn limits(numbers: &[f64]) -> Limits
 }
 
 // What the numbers of a setup stand for, in document 01's order. The eighth is the reach of a motion: max_distance, or PRM's connection_radius.
-#[derive(Drop)]
+#[derive(Clone, Copy)]
 pub struct Fields {
     pub limits: Limits,
     pub segment: Length,

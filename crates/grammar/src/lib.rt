@@ -1,9 +1,11 @@
 // The rows of the table of calls: which words a line starts with, and what follows them. A new call is a verb and its row.
+#![tactic(auto)]
+
 ghost use Rattle.std.specs.Prelude.{◌≡◌};
 ghost use Rattle.grammar.specs.Rows.{setup_row, numbers_row, list_row, keep_out_row, no_row, mount_row, tree_row, prm_row, row_of};
 ghost use Rattle.grammar.specs.Words.{planner_named, verb_named, leaf_verb_named};
 
-#[derive(Drop)]
+#[derive(Clone, Copy)]
 pub enum Planner {
     Mount,
     Rrt,
@@ -13,7 +15,7 @@ pub enum Planner {
     Other,
 }
 
-#[derive(Drop)]
+#[derive(Clone, Copy)]
 pub enum Verb {
     Setup,
     Keepout,
@@ -32,7 +34,7 @@ pub enum Verb {
 }
 
 // What follows the two words of a call: a capacity, so many numbers, a list of numbers of any length, and keep-outs.
-#[derive(Drop)]
+#[derive(Clone, Copy)]
 pub struct Row {
     pub is_call: bool,
     pub has_capacity: bool,

@@ -1,4 +1,6 @@
 // The planners for a host in C or Rust, and for the benchmark: a setup and a solve, or a roadmap and its queries, in one call on plain numbers.
+#![tactic(auto)]
+
 ghost use Rattle.std.specs.Prelude.{◌≡◌};
 ghost use Rattle.host.specs.Call.{Called, rrt_call, connect_call, star_call, prm_call};
 
@@ -10,7 +12,7 @@ use rrt_star::RrtStar;
 
 // The answer's number in document 01's table, the route's number of states, and the samples taken.
 #[repr(C)]
-#[derive(Drop)]
+#[derive(Clone, Copy)]
 pub struct Report {
     pub answer: usize,
     pub count: usize,

@@ -1,4 +1,6 @@
 // Standard input, byte after byte, through a buffer that the caller lends.
+#![tactic(auto)]
+
 ghost use Rattle.std.specs.Prelude.{◌≡◌};
 ghost use Rattle.input.specs.Input.{new_of, next_of};
 
@@ -8,7 +10,7 @@ use libc::STDIN_FILENO;
 pub const MOST: u64 = 0x4000_0000_0000_0000;
 
 // The bytes from at to end of the buffer are still to be read.
-#[derive(Drop)]
+#[derive(Clone, Copy)]
 pub struct Input {
     pub at: usize,
     pub end: usize,
@@ -16,7 +18,7 @@ pub struct Input {
 }
 
 // The next byte, which is not passed yet.
-#[derive(Drop)]
+#[derive(Clone, Copy)]
 pub struct Peeked {
     pub byte: u8,
     pub input: Input,

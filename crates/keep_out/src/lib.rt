@@ -1,4 +1,6 @@
 // Keep-outs (document 01, "The mount"): places that the dish stays out of.
+#![tactic(auto)]
+
 ghost use Rattle.std.specs.Prelude.{◌≡◌};
 ghost use Rattle.keep_out.specs.Covers.{covers_of};
 ghost use Rattle.keep_out.specs.Good.{good_disc, good_keep_out, made_of, box_of, disc_of, floor_of};
@@ -6,7 +8,7 @@ ghost use Rattle.keep_out.specs.Good.{good_disc, good_keep_out, made_of, box_of,
 use state::State;
 
 // Three kinds, each carrying its own numbers.
-#[derive(Drop)]
+#[derive(Clone, Copy)]
 pub enum KeepOut {
     // Faces belong to it.
     Box { low: State, high: State },
@@ -16,7 +18,7 @@ pub enum KeepOut {
     Floor(f64),
 }
 
-#[derive(Drop)]
+#[derive(Clone, Copy)]
 pub enum KeepOutMade {
     Good(KeepOut),
     Bad,

@@ -1,4 +1,6 @@
 // The table of at most 32 keep-outs (document 01, "The mount").
+#![tactic(auto)]
+
 ghost use Rattle.std.specs.Prelude.{◌≡◌, min};
 ghost use Rattle.keep_out.specs.Covers.{covered_of};
 ghost use Rattle.keep_out_table.specs.Table.{keep_outs_of, empty_table, with_of};
@@ -8,20 +10,20 @@ use keep_out::KeepOut;
 use state::State;
 
 // A place of the table.
-#[derive(Drop)]
+#[derive(Clone, Copy)]
 pub struct Slot {
     pub held: KeepOut,
 }
 
 // The first count places hold the keep-outs, in the order in which they were added. A count beyond the table reads as its end.
-#[derive(Drop)]
+#[derive(Clone, Copy)]
 pub struct KeepOuts {
     pub slots: [Slot; 32],
     pub count: usize,
 }
 
 // A table with one keep-out more, or the table as it was where it had no room.
-#[derive(Drop)]
+#[derive(Clone, Copy)]
 pub struct Longer {
     pub room: bool,
     pub table: KeepOuts,

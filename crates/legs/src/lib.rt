@@ -1,4 +1,6 @@
 // The legs of a roadmap: a square of bits, 256 rows of four words. The bit (i, j) says whether a leg joins the milestones i and j.
+#![tactic(auto)]
+
 ghost use Rattle.std.specs.Prelude.{◌≡◌, ◌+◌, ◌*◌, ◌≤◌, ◌<◌, length};
 ghost use Rattle.legs.specs.Bits.{leg_at, unseen_at, Marked, Linked, Without};
 ghost use Rattle.legs.specs.Next.{Next};

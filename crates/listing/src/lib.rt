@@ -1,4 +1,6 @@
 // Keep-outs as a host lists them, a kind and six numbers to a row: whether the kinds are known, and the rows as a table.
+#![tactic(auto)]
+
 ghost use Rattle.std.specs.Prelude.{◌≡◌, ◌+◌};
 ghost use Rattle.listing.specs.Table.{Listed, known_of};
 

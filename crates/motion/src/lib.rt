@@ -1,4 +1,6 @@
 // The motion check (document 01, "Motion check"), over keep-outs that are lent as columns.
+#![tactic(auto)]
+
 ghost use Rattle.std.specs.Prelude.{true, ◌≡◌, ◌≤◌};
 ghost use Rattle.std.specs.Float.Ieee.{le};
 ghost use Rattle.columns.specs.Columns.{columns_of};
@@ -10,7 +12,7 @@ use keep_out_table::KeepOuts;
 use state::State;
 
 // How many points a motion check tests.
-#[derive(Drop)]
+#[derive(Clone, Copy)]
 pub enum Steps {
     Count(usize),
     // More than 4,096: the motion is not accepted.

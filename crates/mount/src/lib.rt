@@ -1,4 +1,6 @@
 // The mount with its limits, segment length and keep-outs: valid states and accepted motions (document 01, "The mount" and "Motion check").
+#![tactic(auto)]
+
 ghost use Rattle.std.specs.Prelude.{◌≡◌};
 ghost use Rattle.keep_out_table.specs.Table.{keep_outs_of};
 ghost use Rattle.motion.specs.Valid.{valid_of};
@@ -13,7 +15,7 @@ use keep_out_table::KeepOuts;
 use motion::Steps;
 use state::State;
 
-#[derive(Drop)]
+#[derive(Clone, Copy)]
 pub struct Mount {
     pub limits: Limits,
     pub segment: Length,

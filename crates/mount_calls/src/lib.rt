@@ -1,4 +1,6 @@
 // The calls on the mount alone: its setup, and the six calls on states.
+#![tactic(auto)]
+
 ghost use Rattle.std.specs.Prelude.{◌≡◌};
 ghost use Rattle.mount_calls.specs.None.{none_of};
 ghost use Rattle.mount_calls.specs.Kept.{setup_from, call_of};
@@ -12,14 +14,14 @@ use output::replies;
 use state::State;
 
 // The mount of the last accepted setup, if there was one.
-#[derive(Drop)]
+#[derive(Clone, Copy)]
 pub struct Kept {
     pub is_ready: bool,
     pub mount: Mount,
 }
 
 // What a call answered: one of document 01's answers, or what the call is for.
-#[derive(Drop)]
+#[derive(Clone, Copy)]
 enum Reply {
     Answered(Answer),
     Number(f64),
@@ -29,7 +31,7 @@ enum Reply {
 }
 
 // What a call answered, and the mount that is kept.
-#[derive(Drop)]
+#[derive(Clone, Copy)]
 struct Done {
     reply: Reply,
     kept: Kept,

@@ -1,4 +1,6 @@
 // The node of a tree that is nearest to a state (document 01, "Tree step").
+#![tactic(auto)]
+
 ghost use Rattle.std.specs.Prelude.{◌≡◌, ◌≤◌, ◌<◌, ◌+◌};
 ghost use Rattle.tree.specs.Table.{states_of};
 ghost use Rattle.nearest.specs.Nearest.{nearest_of, less_of, far_of, Lowest};
@@ -6,7 +8,7 @@ ghost use Rattle.nearest.specs.Nearest.{nearest_of, less_of, far_of, Lowest};
 use state::State;
 
 // A node's number with its distance.
-#[derive(Drop)]
+#[derive(Clone, Copy)]
 pub struct Near {
     pub index: usize,
     pub far: f64,

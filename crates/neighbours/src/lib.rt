@@ -1,4 +1,6 @@
 // The neighbours of a new state (document 01, "RRT*"), found before the state is appended.
+#![tactic(auto)]
+
 ghost use Rattle.std.specs.Prelude.{◌≡◌, ◌≤◌, length};
 ghost use Rattle.tree.specs.Table.{states_of};
 ghost use Rattle.neighbours.specs.Neighbours.{Found};

@@ -1,4 +1,6 @@
 // Numbers as text has them: a decimal numeral's value, and a number's bits.
+#![tactic(auto)]
+
 ghost use Rattle.std.specs.Prelude.{◌≡◌, ◌^◌, ◌≤◌};
 ghost use Rattle.std.specs.Float.{binary64};
 ghost use Rattle.std.specs.Float.Ieee.{of_bits};
@@ -6,7 +8,7 @@ ghost use Rattle.numeral.specs.Decimal.{decimal_of};
 ghost use Rattle.numeral.specs.Bits.{bits_of};
 ghost use Rattle.numeral.specs.Hex.{hex_of};
 
-#[derive(Drop)]
+#[derive(Clone, Copy)]
 pub enum NumeralMade {
     Good(f64),
     Bad,
@@ -76,7 +78,7 @@ pub fn to_bits(x: f64) -> u64
     0x7ff8_0000_0000_0000
 }
 
-#[derive(Drop)]
+#[derive(Clone, Copy)]
 pub enum HexDigit {
     Value(u64),
     Other,

@@ -1,5 +1,7 @@
 // Standard output, through a buffer that the caller lends. Each function puts its text after the bytes that are used and answers how
 // many are used then; a full buffer is written first.
+#![tactic(auto)]
+
 pub mod nodes;
 pub mod replies;
 pub mod routes;

@@ -1,5 +1,7 @@
 // A roadmap that is built, has keep-outs added to it, as a machine that is parked among the milestones, and is asked for routes. The keep-outs
 // that are added stand in the same columns as the setup's, in the rows after those.
+#![tactic(auto)]
+
 ghost use Rattle.std.specs.Prelude.{◌≡◌};
 ghost use Rattle.prm.specs.Planner.{planner_of, answered_of};
 ghost use Rattle.prm.specs.Construct.{constructed_of};
@@ -12,7 +14,7 @@ use keep_out_table::KeepOuts;
 use prm::{Answered, Constructed, Prm, Queried};
 
 // How a chart ended: the route's number of states, and the samples that the construction took.
-#[derive(Drop)]
+#[derive(Clone, Copy)]
 pub struct Charted {
     pub answer: Answer,
     pub count: usize,

@@ -1,4 +1,6 @@
 // What the planners have in common: the numbers that a setup takes, and when a planner can be used.
+#![tactic(auto)]
+
 ghost use Rattle.std.specs.Prelude.{false, ◌≡◌};
 ghost use Rattle.plan.specs.Setup.{good_setup, setting_of, usable_of};
 ghost use Rattle.plan.specs.KeepOut.{more_of, longer_setting};
@@ -38,7 +40,7 @@ pub fn is_usable(ready: bool, count: usize) -> bool
 }
 
 // What a setup gave, but for the start and what only one planner takes. Each planner keeps it beside its tables.
-#[derive(Drop)]
+#[derive(Clone, Copy)]
 pub struct Setting {
     // Whether a setup was accepted.
     pub ready: bool,
@@ -49,7 +51,7 @@ pub struct Setting {
 }
 
 // A setting with one more keep-out, or as it was where that is refused.
-#[derive(Drop)]
+#[derive(Clone, Copy)]
 pub struct More {
     pub setting: Setting,
     pub answer: Answer,

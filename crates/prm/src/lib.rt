@@ -1,4 +1,6 @@
 // PRM (document 01, "PRM construction", "PRM query" and "Sizes and answers"): a roadmap of valid samples, and queries over it.
+#![tactic(auto)]
+
 ghost use Rattle.std.specs.Prelude.{◌≡◌};
 ghost use Rattle.prm.specs.Planner.{planner_of, new_of, setup_of, answered_of, goals_of, size_of, milestone_of, leg_of};
 ghost use Rattle.prm.specs.Construct.{constructed_of, construct_of};
@@ -14,20 +16,20 @@ use roadmap::{MilestoneAt, Roadmap};
 use state::State;
 
 // What an accepted setup gave, with start and goal as last replaced, and the roadmap that has been built since.
-#[derive(Drop)]
+#[derive(Clone, Copy)]
 pub struct Prm {
     setting: Setting,
     start: State,
     map: Roadmap,
 }
 
-#[derive(Drop)]
+#[derive(Clone, Copy)]
 pub struct Answered {
     pub planner: Prm,
     pub answer: Answer,
 }
 
-#[derive(Drop)]
+#[derive(Clone, Copy)]
 pub struct Constructed {
     pub planner: Prm,
     pub answer: Answer,
@@ -36,7 +38,7 @@ pub struct Constructed {
 }
 
 // How a query ended.
-#[derive(Drop)]
+#[derive(Clone, Copy)]
 pub struct Queried {
     pub answer: Answer,
     // The route's number of states.

@@ -1,4 +1,6 @@
 // The calls on the PRM planner.
+#![tactic(auto)]
+
 ghost use Rattle.std.specs.Prelude.{◌≡◌};
 ghost use Rattle.prm.specs.Planner.{planner_of};
 ghost use Rattle.prm_calls.specs.Left.{left_by, setup_from, keepout_from, construct_from, goals_from, call_of};
@@ -11,7 +13,7 @@ use roadmap::MilestoneAt;
 use script::Line;
 
 // Whether the call was made, and the planner after it.
-#[derive(Drop)]
+#[derive(Clone, Copy)]
 pub struct Called {
     pub is_made: bool,
     pub planner: Prm,

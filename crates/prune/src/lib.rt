@@ -1,5 +1,7 @@
 // What a new keep-out leaves of a roadmap (document 01, "Adding a keep-out"). The new keep-out alone is tested, against the milestones
 // and against the checked points of the legs that stand.
+#![tactic(auto)]
+
 ghost use Rattle.std.specs.Prelude.{not, ◌&&◌, ◌≡◌, ℕ, ◌<◌, length, get_or};
 ghost use Rattle.legs.specs.Bits.{leg_at};
 ghost use Rattle.state.specs.Rows.{row_at};

@@ -1,4 +1,6 @@
 // The queue of a PRM query's search (document 01, "PRM query"), in lent tables: milestones in the order in which they were reached, each once.
+#![tactic(auto)]
+
 ghost use Rattle.std.specs.Prelude.{◌∷◌, [], ℕ, ◌≤◌, ◌<◌};
 ghost use Rattle.columns.specs.Columns.{columns_of};
 ghost use Rattle.legs.specs.Bits.{leg_at};

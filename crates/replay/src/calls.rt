@@ -9,7 +9,7 @@ use rrt_star::RrtStar;
 use script::{Kind, Line};
 
 // What the calls work on: one planner of each kind, and the mount.
-#[derive(Drop)]
+#[derive(Clone, Copy)]
 struct Planners {
     mount: Kept,
     rrt: Rrt,
@@ -19,14 +19,14 @@ struct Planners {
 }
 
 // What came of a line: whether it is a call that was made, and the planners after it.
-#[derive(Drop)]
+#[derive(Clone, Copy)]
 struct Made {
     is_call: bool,
     planners: Planners,
 }
 
 // Where the script stands: the planners, what is left of the input, and whether there is a line to read.
-#[derive(Drop)]
+#[derive(Clone, Copy)]
 struct Script {
     goes_on: bool,
     planners: Planners,

@@ -1,5 +1,7 @@
 // Reads a script of calls from standard input, makes each call, and writes what it answered. One call a line; at the first line
 // that is no call it says so and stops.
+#![tactic(auto)]
+
 mod calls;
 
 fn main() {

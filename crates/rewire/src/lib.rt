@@ -1,4 +1,6 @@
 // The rewiring around a new node (document 01, "RRT*"): neighbours that are cheaper under it move.
+#![tactic(auto)]
+
 ghost use Rattle.std.specs.Prelude.{◌≡◌, ◌≤◌, ◌<◌, ◌+◌, length, take};
 ghost use Rattle.columns.specs.Columns.{columns_of};
 ghost use Rattle.tree.specs.Table.{states_of};

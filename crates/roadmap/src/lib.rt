@@ -1,4 +1,6 @@
 // The roadmap of PRM (document 01, "PRM construction"): milestones by columns, and legs as a square of bits.
+#![tactic(auto)]
+
 ghost use Rattle.std.specs.Prelude.{[], ◌≡◌, length};
 ghost use Rattle.roadmap.specs.Map.{milestone_of, leg_of};
 ghost use Rattle.roadmap.specs.View.{milestones_of};
@@ -6,7 +8,7 @@ ghost use Rattle.roadmap.specs.View.{milestones_of};
 use state::State;
 
 // The first count rows are the milestones.
-#[derive(Drop)]
+#[derive(Clone, Copy)]
 pub struct Roadmap {
     pub az: [f64; 256],
     pub el: [f64; 256],
@@ -16,7 +18,7 @@ pub struct Roadmap {
 }
 
 // What stands at a number.
-#[derive(Drop)]
+#[derive(Clone, Copy)]
 pub enum MilestoneAt {
     At(State),
     Nothing,

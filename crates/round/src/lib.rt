@@ -1,4 +1,6 @@
 // One sample on both trees (document 01, "RRT-Connect"): the goal tree's root, or a turn of the tree that is to grow.
+#![tactic(auto)]
+
 ghost use Rattle.std.specs.Prelude.{◌≤◌, ◌<◌};
 ghost use Rattle.columns.specs.Columns.{columns_of};
 ghost use Rattle.tree.specs.Table.{root_of};
@@ -13,7 +15,7 @@ use tree::Tree;
 use turn::Ends;
 
 // How a sample ended, and how many nodes the trees have then.
-#[derive(Drop)]
+#[derive(Clone, Copy)]
 pub struct Rounded {
     pub ends: Ends,
     pub start: usize,

@@ -1,4 +1,6 @@
 // The route from a tree's root to a node, written to lent memory.
+#![tactic(auto)]
+
 ghost use Rattle.std.specs.Prelude.{◌≡◌, ◌≤◌, ◌<◌, ◌*◌, ◌+◌, length};
 ghost use Rattle.tree.specs.Table.{nodes_in};
 ghost use Rattle.route.specs.Path.{Depth};

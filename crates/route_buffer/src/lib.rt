@@ -1,4 +1,6 @@
 // The buffer that a route is written into, and what stands in it before a call.
+#![tactic(auto)]
+
 ghost use Rattle.std.specs.Prelude.{◌≡◌, take};
 ghost use Rattle.route_buffer.specs.Buffer.{fresh_of};
 

@@ -1,4 +1,6 @@
 // RRT (document 01, "RRT" and "Sizes and answers"): one tree from the start, a sample at a time, until a new node satisfies the goal.
+#![tactic(auto)]
+
 ghost use Rattle.std.specs.Prelude.{◌≡◌};
 ghost use Rattle.rrt.specs.Planner.{planner_of, new_of, setup_of, add_of, answered_of, size_of, node_of};
 ghost use Rattle.rrt.specs.Solve.{solved_of, solve_of};
@@ -12,19 +14,19 @@ use state::State;
 use tree::{NodeAt, Tree};
 
 // What an accepted setup gave, and the tree that has grown since.
-#[derive(Drop)]
+#[derive(Clone, Copy)]
 pub struct Rrt {
     setting: Setting,
     tree: Tree,
 }
 
-#[derive(Drop)]
+#[derive(Clone, Copy)]
 pub struct Answered {
     pub planner: Rrt,
     pub answer: Answer,
 }
 
-#[derive(Drop)]
+#[derive(Clone, Copy)]
 pub struct Solved {
     pub planner: Rrt,
     pub answer: Answer,

@@ -1,5 +1,7 @@
 // RRT-Connect (document 01, "RRT-Connect" and "Sizes and answers"): two trees, from the start and from the first sample, that grow
 // toward each other.
+#![tactic(auto)]
+
 ghost use Rattle.std.specs.Prelude.{◌≡◌};
 ghost use Rattle.rrt_connect.specs.Planner.{usable_of, planner_of, new_of, setup_of, add_of, answered_of, start_size_of, goal_size_of, start_node_of, goal_node_of};
 ghost use Rattle.rrt_connect.specs.Solve.{solved_of, solve_of};
@@ -13,20 +15,20 @@ use state::State;
 use tree::{NodeAt, Tree};
 
 // What an accepted setup gave, and the trees that have grown since.
-#[derive(Drop)]
+#[derive(Clone, Copy)]
 pub struct RrtConnect {
     setting: Setting,
     start_tree: Tree,
     goal_tree: Tree,
 }
 
-#[derive(Drop)]
+#[derive(Clone, Copy)]
 pub struct Answered {
     pub planner: RrtConnect,
     pub answer: Answer,
 }
 
-#[derive(Drop)]
+#[derive(Clone, Copy)]
 pub struct Solved {
     pub planner: RrtConnect,
     pub answer: Answer,

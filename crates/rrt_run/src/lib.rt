@@ -1,4 +1,6 @@
 // A run of RRT over a list of samples (document 01, "RRT").
+#![tactic(auto)]
+
 ghost use Rattle.std.specs.Prelude.{◌≤◌, ◌<◌, length};
 ghost use Rattle.rrt_run.specs.Run.{Runs};
 
@@ -10,7 +12,7 @@ use state::State;
 use tree::Tree;
 
 // How a run over the samples ended.
-#[derive(Drop)]
+#[derive(Clone, Copy)]
 pub struct Ran {
     pub tree: Tree,
     pub answer: Answer,

@@ -1,5 +1,7 @@
 // RRT* (document 01, "RRT*" and "Sizes and answers"): RRT whose new node takes the parent that costs least, and then draws its neighbours
 // under itself where that costs less.
+#![tactic(auto)]
+
 ghost use Rattle.std.specs.Prelude.{◌≡◌};
 ghost use Rattle.rrt_star.specs.Planner.{planner_of, new_of, setup_of, add_of, answered_of, size_of, node_of, cost_of};
 ghost use Rattle.rrt_star.specs.Solve.{solved_of, solve_of};
@@ -13,7 +15,7 @@ use state::State;
 use tree::{NodeAt, Tree};
 
 // What an accepted setup gave, the tree that has grown since, and what each node costs.
-#[derive(Drop)]
+#[derive(Clone, Copy)]
 pub struct RrtStar {
     setting: Setting,
     search_radius: Length,
@@ -21,13 +23,13 @@ pub struct RrtStar {
     cost: [f64; 512],
 }
 
-#[derive(Drop)]
+#[derive(Clone, Copy)]
 pub struct Answered {
     pub planner: RrtStar,
     pub answer: Answer,
 }
 
-#[derive(Drop)]
+#[derive(Clone, Copy)]
 pub struct Solved {
     pub planner: RrtStar,
     pub answer: Answer,
@@ -38,7 +40,7 @@ pub struct Solved {
 }
 
 // What the node at a number costs, if there is one.
-#[derive(Drop)]
+#[derive(Clone, Copy)]
 pub enum CostAt {
     Cost(f64),
     Nothing,

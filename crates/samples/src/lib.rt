@@ -1,4 +1,6 @@
 // Lists of samples: plain numbers, three to a state (document 01, "Sizes and answers").
+#![tactic(auto)]
+
 ghost use Rattle.std.specs.Prelude.{◌≡◌};
 ghost use Rattle.samples.specs.Samples.{good_samples};
 

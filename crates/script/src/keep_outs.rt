@@ -6,7 +6,7 @@ use keep_out_table::KeepOuts;
 use state::State;
 use words::word;
 
-#[derive(Drop)]
+#[derive(Clone, Copy)]
 enum Shape {
     Box,
     Disc,
@@ -15,7 +15,7 @@ enum Shape {
 }
 
 // One keep-out.
-#[derive(Drop)]
+#[derive(Clone, Copy)]
 struct Single {
     fits: bool,
     held: KeepOut,
@@ -23,7 +23,7 @@ struct Single {
 }
 
 // Whether they fit, and the table of them. It holds 32 at most, and its count goes on beyond that.
-#[derive(Drop)]
+#[derive(Clone, Copy)]
 pub struct Listed {
     pub fits: bool,
     pub table: KeepOuts,

@@ -1,4 +1,6 @@
 // A line of a script as a call.
+#![tactic(auto)]
+
 mod keep_outs;
 mod line;
 mod numbers;

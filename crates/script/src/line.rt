@@ -5,7 +5,7 @@ use input::Input;
 use keep_out_table::KeepOuts;
 use words::word;
 
-#[derive(Drop)]
+#[derive(Clone, Copy)]
 pub enum Kind {
     Call,
     // No word: an empty line, a comment, or the end of the input.
@@ -15,7 +15,7 @@ pub enum Kind {
 }
 
 // A line that is read. Its numbers stand in memory that the caller lends.
-#[derive(Drop)]
+#[derive(Clone, Copy)]
 pub struct Line {
     pub kind: Kind,
     pub planner: Planner,

@@ -9,7 +9,7 @@ use words::{number, word};
 const MOST_CAPACITY: u64 = 4096;
 
 // What a part of a line says: whether it fits, and a number or how many numbers there are.
-#[derive(Drop)]
+#[derive(Clone, Copy)]
 pub struct Part {
     pub fits: bool,
     pub value: usize,

@@ -1,5 +1,7 @@
 // The search of a PRM query (document 01, "PRM query"): breadth first over a roadmap from the milestones that the start reaches, and the
 // route to the first one taken from the queue that satisfies the goal.
+#![tactic(auto)]
+
 ghost use Rattle.std.specs.Prelude.{◌+◌, ◌≤◌, ◌<◌, length};
 ghost use Rattle.keep_out_table.specs.Table.{keep_outs_of};
 ghost use Rattle.state.specs.Rows.{row_at};

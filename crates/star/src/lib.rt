@@ -1,4 +1,6 @@
 // One sample of RRT*: a tree step, and if its node is added the choice of its parent and the rewiring around it.
+#![tactic(auto)]
+
 ghost use Rattle.std.specs.Prelude.{◌≤◌, ◌<◌};
 ghost use Rattle.columns.specs.Columns.{columns_of};
 ghost use Rattle.star.specs.Grow.{Sized, plan_with, tree_in, Grows};
@@ -8,7 +10,7 @@ use fields::Limits;
 use state::State;
 use tree::Tree;
 
-#[derive(Drop)]
+#[derive(Clone, Copy)]
 pub struct Grown {
     pub verdict: Verdict,
     // The new state.

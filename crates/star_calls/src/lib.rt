@@ -1,4 +1,6 @@
 // The calls on the RRT* planner.
+#![tactic(auto)]
+
 ghost use Rattle.std.specs.Prelude.{◌≡◌};
 ghost use Rattle.rrt_star.specs.Planner.{planner_of};
 ghost use Rattle.star_calls.specs.Left.{left_by, setup_from, keepout_from, solve_from, call_of};
@@ -10,7 +12,7 @@ use rrt_star::{CostAt, RrtStar};
 use script::Line;
 
 // Whether the call was made, and the planner after it.
-#[derive(Drop)]
+#[derive(Clone, Copy)]
 pub struct Called {
     pub is_made: bool,
     pub planner: RrtStar,

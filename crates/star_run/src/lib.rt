@@ -1,4 +1,6 @@
 // A run over a list of samples (document 01, "RRT*"): each grows the tree, until a new node satisfies the goal or none can be added.
+#![tactic(auto)]
+
 ghost use Rattle.std.specs.Prelude.{◌≤◌, ◌<◌, length};
 ghost use Rattle.star_run.specs.Run.{Runs};
 
@@ -11,7 +13,7 @@ use state::State;
 use tree::Tree;
 
 // How a run over the samples ended.
-#[derive(Drop)]
+#[derive(Clone, Copy)]
 pub struct Ran {
     pub tree: Tree,
     pub cost: [f64; 512],

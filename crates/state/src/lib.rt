@@ -1,5 +1,7 @@
 // States (document 01, "The mount"): three coordinates with the range that they are taken from, distance, interpolation and steering.
 // The constructor refuses bad numbers; `is_good` says the same of a value that somebody else made.
+#![tactic(auto)]
+
 ghost use Rattle.std.specs.Prelude.{◌≡◌, false};
 ghost use Rattle.std.specs.Float.{binary64};
 ghost use Rattle.std.specs.Float.Ieee.{lt, of_bits};
@@ -9,14 +11,14 @@ ghost use Rattle.state.specs.Distance.{apart_of, wider_of, distance_of};
 ghost use Rattle.state.specs.Steering.{interpolate_of, steer_by_of, steer_of};
 
 // Azimuth, elevation and feed rotation: one record that travels by value.
-#[derive(Drop)]
+#[derive(Clone, Copy)]
 pub struct State {
     pub az: f64,
     pub el: f64,
     pub feed: f64,
 }
 
-#[derive(Drop)]
+#[derive(Clone, Copy)]
 pub enum StateMade {
     Good(State),
     Bad,

@@ -1,4 +1,6 @@
 // One tree step (document 01, "Tree step").
+#![tactic(auto)]
+
 ghost use Rattle.std.specs.Prelude.{◌≡◌, ◌≤◌, ◌<◌};
 ghost use Rattle.columns.specs.Columns.{columns_of};
 ghost use Rattle.tree.specs.Table.{states_of};
@@ -9,7 +11,7 @@ use state::State;
 
 // What a tree step found: the new state, the node that it was reached from, whether it is the sample itself, and whether the motion
 // is accepted.
-#[derive(Drop)]
+#[derive(Clone, Copy)]
 pub struct Stepped {
     pub at: State,
     pub parent: usize,

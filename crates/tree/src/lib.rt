@@ -1,12 +1,14 @@
 // A tree of states in columns, read by index. The columns are lent to what only reads them; a planner appends in place, in the local that
 // holds the tree.
+#![tactic(auto)]
+
 ghost use Rattle.std.specs.Prelude.{◌≡◌};
 ghost use Rattle.tree.specs.Table.{nodes_in, node_at_of, rooted_of, none_of};
 
 use state::State;
 
 // The first count rows are the nodes.
-#[derive(Drop)]
+#[derive(Clone, Copy)]
 pub struct Tree {
     pub az: [f64; 512],
     pub el: [f64; 512],
@@ -16,7 +18,7 @@ pub struct Tree {
 }
 
 // What stands at a number: a root, a node with its parent's number, or nothing.
-#[derive(Drop)]
+#[derive(Clone, Copy)]
 pub enum NodeAt {
     Root(State),
     Child(State, usize),

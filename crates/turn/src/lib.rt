@@ -1,4 +1,6 @@
 // One sample (document 01, "RRT-Connect"): a step of the growing tree, and one of the other toward its new node.
+#![tactic(auto)]
+
 ghost use Rattle.std.specs.Prelude.{◌≡◌, ◌≤◌, ◌<◌};
 ghost use Rattle.columns.specs.Columns.{columns_of};
 ghost use Rattle.tree.specs.Table.{nodes_in};
@@ -10,7 +12,7 @@ use fields::{Goal, Limits};
 use state::State;
 
 // What a sample led to.
-#[derive(Drop)]
+#[derive(Clone, Copy)]
 pub enum Ends {
     GoesOn,
     // An accepted motion found its tree full.
@@ -22,7 +24,7 @@ pub enum Ends {
 }
 
 // How a sample ended, and how many nodes the growing tree and the other one have then.
-#[derive(Drop)]
+#[derive(Clone, Copy)]
 pub struct Turned {
     pub ends: Ends,
     pub growing: usize,

@@ -13,14 +13,14 @@ const FULL: u64 = 100_000_000_000_000;
 // The longest number: `x` and 16 digits. A decimal numeral with its sign and its point is as long at most.
 const LONGEST: usize = 17;
 
-#[derive(Drop)]
+#[derive(Clone, Copy)]
 pub enum Whole {
     Value(u64),
     Other,
 }
 
 // Digits, read on from a value: the value with them, and the place of the first byte that is no more of the run.
-#[derive(Drop)]
+#[derive(Clone, Copy)]
 struct Run {
     value: u64,
     end: usize,

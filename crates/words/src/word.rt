@@ -5,7 +5,7 @@ use input::Input;
 
 // A word, and the input after it. The longest word that a call can have is 17 bytes long, so one that is cut at 18 fits no call. No
 // bytes: the line has no more words.
-#[derive(Drop)]
+#[derive(Clone, Copy)]
 pub struct Word {
     pub text: [u8; 18],
     pub len: usize,
