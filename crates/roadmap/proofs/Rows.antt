@@ -1,5 +1,5 @@
 -- The closed form with one milestone more.
-use Prim.Native.Nat.{suc, ◌+◌}
+use Prim.Native.Nat.{suc}
 use mathlib.Core.Bool.{Bool, false}
 use mathlib.Core.List.{List, [], ◌∷◌, ◌++◌, map, append-nil, append_assoc}
 use mathlib.Core.Path.{◌≡◌, refl, sym, ◌∙◌, ap}

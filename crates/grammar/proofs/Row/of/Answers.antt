@@ -8,7 +8,7 @@ returns-in-Mount c = rw c.in-Mount.is c.of_mount.ensures
 
 pub returns-in-Rrt : goal.returns-in-Rrt
 unfolding row_of
-returns-in-Rrt c = rw c.in-Rrt.is c.of_Tree.ensures
+returns-in-Rrt c = rw c.in-Rrt.is c.of_tree.ensures
 
 pub returns-in-Connect : goal.returns-in-Connect
 unfolding row_of

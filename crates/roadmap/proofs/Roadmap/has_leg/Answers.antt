@@ -3,12 +3,11 @@ use mathlib.Core.Path.{◌≡◌, ◌∙◌}
 use native.Mathlib.Omega.{arith}
 use Rattle.roadmap.specs.View.{milestones_of}
 use Rattle.roadmap.proofs.View.{view_long, leg_at_is, leg_over, no_legs}
-use borrow.Author.Rules.{rules}
 use Rattle.roadmap.proofs.Roadmap.has_leg.Goals as goal
 use Rattle.roadmap.proofs.Roadmap.has_leg.Goals.{After-size-count}
 
 -- the size is the smaller of the count and 256
-most : (c : After-size-count) → c.size-count.result ≡ min c.args.t1.count 256
+most : (c : After-size-count) → c.size-count.result ≡ min c.args.self.count 256
 unfolding milestones_of
 most c = c.size-count.ensures ∙ view_long _ _ _ _ _
 

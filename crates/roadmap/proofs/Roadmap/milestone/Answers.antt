@@ -3,12 +3,11 @@ use mathlib.Core.Path.{◌≡◌, ◌∙◌}
 use native.Mathlib.Omega.{arith}
 use Rattle.roadmap.specs.View.{milestones_of}
 use Rattle.roadmap.proofs.View.{view_long, state_at_is, nothing_at}
-use borrow.Author.Rules.{rules}
 use Rattle.roadmap.proofs.Roadmap.milestone.Goals as goal
 use Rattle.roadmap.proofs.Roadmap.milestone.Goals.{After-size-count}
 
 -- the size is the smaller of the count and 256
-most : (c : After-size-count) → c.size-count.result ≡ min c.args.t1.count 256
+most : (c : After-size-count) → c.size-count.result ≡ min c.args.self.count 256
 unfolding milestones_of
 most c = c.size-count.ensures ∙ view_long _ _ _ _ _
 
@@ -34,7 +33,7 @@ pub returns-then-i-count : goal.returns-then-i-count
 unfolding milestones_of
 returns-then-i-count c =
     let m = most (goal.at.returns-then-i-count c).After-size-count in
-    state_at_is _ _ _ c.args.t1.legs _ _ (omega arith)
+    state_at_is _ _ _ c.args.self.legs _ _ (omega arith)
 
 pub returns : goal.returns
 unfolding milestones_of

@@ -1,0 +1,18 @@
+use Prim.Native.Nat.{◌*◌, ◌≤◌, ◌<◌}
+use mathlib.Core.Path.{◌≡◌, refl, sym, ◌∙◌}
+use native.Mathlib.Omega.{arith}
+use borrow.Author.Rules.{rules}
+use lib.ListN.{length}
+use Rattle.tree.specs.Table.{Nodes, nodes_in}
+use Rattle.route.specs.Path.{path_of}
+use Rattle.route.proofs.Back.{Behind, back_starts, parent_node, back_turn, back_ends}
+use Rattle.route.proofs.View.{nodes_many, state_in, parent_in}
+use Rattle.route.proofs.reconstruct_path.Given as goal
+
+abbrev pub invariant-back : goal.invariant-back
+invariant-back l = (l.at < l.count) × (0 < l.left) × (l.left ≤ l.n) × (length l.route ≡ length l.initial.route)
+    × (let nodes = nodes_in l.count l.az l.el l.feed l.parent in
+    (is : l.n ≡ length (path_of nodes l.node)) × (room : 3 * l.n ≤ length l.initial.route) × Behind nodes l.node l.n is l.initial.route room l.at l.left l.route)
+
+abbrev pub decreases-back : goal.decreases-back
+decreases-back l = l.left
