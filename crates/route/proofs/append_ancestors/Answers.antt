@@ -1,11 +1,10 @@
-use Prim.Native.Nat.{◌+◌, ◌-◌, ◌*◌, ◌≤◌, ◌<◌}
+use Prim.Native.Nat.{◌+◌, ◌*◌, ◌≤◌}
 use mathlib.Core.List.{List, [], ◌∷◌, ◌++◌}
 use mathlib.Core.Path.{◌≡◌, refl, sym, ◌∙◌, ap}
 use native.Mathlib.Omega.{arith}
 use lib.ListN.{length, get_or, take, drop, length-append, take-append-drop}
 use Rattle.state.specs.declared.State.{State}
 use Rattle.tree.specs.Table.{Nodes, nodes_in, state_at, parent_at}
-use Rattle.route.specs.Path.{ancestors_of, upwards_of}
 use Rattle.route.specs.Written.{flat_of, put_of}
 use Rattle.route.proofs.Upwards.{placed_behind, up_starts, up_one, up_ends, up_out}
 use Rattle.route.proofs.View.{nodes_many, state_in, parent_in}
@@ -43,7 +42,7 @@ up-preserved c =
     let long : length new ≡ here.k + 1 = omega (arith, length-append h.3.0 (state_at (nodes (goal.at.up-preserved c).Start).states p ∷ []), h.3.1) in (
       c.if-p-count.true,
       omega arith,
-      c.put.auto.0 ∙ h.2,
+      c.put.auto.route ∙ h.2,
       (
         new,
         long,

@@ -1,14 +1,11 @@
 use Prim.Native.Nat.{◌+◌, ◌-◌, ◌*◌, ◌≤◌, ◌<◌}
-use mathlib.Core.List.{List, [], ◌∷◌, ◌++◌}
-use mathlib.Core.Path.{◌≡◌, refl, sym, ◌∙◌, ap}
-use native.Mathlib.Omega.{arith}
-use lib.ListN.{length, get_or, take, drop, length-append, take-append-drop}
+use mathlib.Core.List.{List, ◌++◌}
+use mathlib.Core.Path.{◌≡◌}
+use lib.ListN.{length, take, drop}
 use Rattle.state.specs.declared.State.{State}
-use Rattle.tree.specs.Table.{Nodes, nodes_in, state_at, parent_at}
+use Rattle.tree.specs.Table.{nodes_in}
 use Rattle.route.specs.Path.{ancestors_of, upwards_of}
-use Rattle.route.specs.Written.{flat_of, put_of}
-use Rattle.route.proofs.Upwards.{placed_behind, up_starts, up_one, up_ends, up_out}
-use Rattle.route.proofs.View.{nodes_many, state_in, parent_in}
+use Rattle.route.specs.Written.{flat_of}
 use Rattle.route.proofs.append_ancestors.Given as goal
 
 abbrev pub invariant-up : goal.invariant-up

@@ -34,13 +34,13 @@ back-preserved c =
       omega (arith, node, is-p, many (goal.at.back-preserved c).Start),
       omega arith,
       omega arith,
-      c.put.auto.0 ∙ h.3,
+      c.put.auto.route ∙ h.3,
       (h.4.0, h.4.1, back_turn (nodes (goal.at.back-preserved c).Start) _ _ h.4.0 _ h.4.1 _ _ _ w _ is-s _ c.back-test.true _ is-p c.put.ensures),
     )
 
 pub shape_of-route : goal.shape_of-route
 shape_of-route c =
-    c.put-2.auto.0 ∙ c.back.invariant.3
+    c.put-2.auto.route ∙ c.back.invariant.3
 
 pub returns : goal.returns
 returns c =

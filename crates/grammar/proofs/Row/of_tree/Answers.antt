@@ -23,10 +23,4 @@ unfolding tree_row
 returns-in-Tables c = rw c.in-Tables.is c.of_numbers.ensures
 
 pub returns-in_default : goal.returns-in_default
-unfolding tree_row
-returns-in_default c =
-    c.none.ensures ∙
-    none_for no_row (tree_row _) c.args.verb
-    (Construct ∷ Goals ∷ Query ∷ Distance ∷ Between ∷ Steer ∷ Valid ∷ Steps ∷ Motion ∷ Other ∷ [])
-    refl
-    c.in-Setup.keys5
+returns-in_default c = let h = c.in_default in ?
