@@ -10,12 +10,12 @@ use Rattle.given.proofs.keep_out.Goals as goal
 use Rattle.given.proofs.keep_out.Goals.{Start}
 
 -- the table has 32 places
-sized : (c : Start) → length c.args.self.slots ≡ 32
+sized : (c : Start) → length c.args.table.slots ≡ 32
 sized c = search (mapped, rules)
 
 pub returns : goal.returns
 unfolding first_in
 returns c =
-    let slots = c.args.self.slots in
+    let slots = c.args.table.slots in
     let some : 0 < length slots = omega (arith, sized (goal.at.returns c).Start) in
     ap held_of (within slots 0 _ _ some)

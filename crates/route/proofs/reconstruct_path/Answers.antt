@@ -1,11 +1,9 @@
-use Prim.Native.Nat.{◌*◌, ◌≤◌, ◌<◌}
+use Prim.Native.Nat.{◌*◌, ◌≤◌}
 use mathlib.Core.Path.{◌≡◌, refl, sym, ◌∙◌}
 use native.Mathlib.Omega.{arith}
-use borrow.Author.Rules.{rules}
 use lib.ListN.{length}
 use Rattle.tree.specs.Table.{Nodes, nodes_in}
-use Rattle.route.specs.Path.{path_of}
-use Rattle.route.proofs.Back.{Behind, back_starts, parent_node, back_turn, back_ends}
+use Rattle.route.proofs.Back.{back_starts, parent_node, back_turn, back_ends}
 use Rattle.route.proofs.View.{nodes_many, state_in, parent_in}
 use Rattle.route.proofs.reconstruct_path.Goals as goal
 use Rattle.route.proofs.reconstruct_path.Goals.{Start}
@@ -30,7 +28,7 @@ back-preserved c =
     let w = h.4.2 in
     let is-s = sym (state_in _ _ _ c.args.parent.now _ c.requires.1 _ h.0) in
     let is-p = parent_in c.args.az.now c.args.el.now c.args.feed.now c.args.parent.now _ c.requires.1 _ h.0 in
-    let node = parent_node (nodes (goal.at.back-preserved c).Start) _ _ h.4.0 _ h.4.1 _ _ _ w _ is-s c.put.new.0 c.back-test.true in (
+    let node = parent_node (nodes (goal.at.back-preserved c).Start) _ _ h.4.0 _ h.4.1 _ _ _ w _ is-s c.put.new.route c.back-test.true in (
       omega (arith, node, is-p, many (goal.at.back-preserved c).Start),
       omega arith,
       omega arith,

@@ -1,12 +1,9 @@
 use Prim.Native.Nat.{◌*◌, ◌≤◌, ◌<◌}
-use mathlib.Core.Path.{◌≡◌, refl, sym, ◌∙◌}
-use native.Mathlib.Omega.{arith}
-use borrow.Author.Rules.{rules}
+use mathlib.Core.Path.{◌≡◌}
 use lib.ListN.{length}
-use Rattle.tree.specs.Table.{Nodes, nodes_in}
+use Rattle.tree.specs.Table.{nodes_in}
 use Rattle.route.specs.Path.{path_of}
-use Rattle.route.proofs.Back.{Behind, back_starts, parent_node, back_turn, back_ends}
-use Rattle.route.proofs.View.{nodes_many, state_in, parent_in}
+use Rattle.route.proofs.Back.{Behind}
 use Rattle.route.proofs.reconstruct_path.Given as goal
 
 abbrev pub invariant-back : goal.invariant-back

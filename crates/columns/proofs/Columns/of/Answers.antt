@@ -1,28 +1,22 @@
-use Prim.Native.Nat.{ℕ, ◌≤◌, ◌<◌, ◌-◌, ◌*◌, min}
+use Prim.Native.Nat.{ℕ, ◌<◌, ◌*◌, min}
 use mathlib.Core.Path.{◌≡◌, refl, ◌∙◌}
 use native.Mathlib.Omega.{arith}
 use borrow.Author.Rules.{rules}
 use lib.ListN.{length, length-set}
-use lib.Ieee.{nan}
 use Rattle.laws.specs.Rest.{mapped}
-use Rattle.keep_out.specs.declared.KeepOut.TheVariants.{Floor}
-use Rattle.keep_out_table.specs.declared.Slot.{Slot}
 use Rattle.columns.proofs.Rows.{six_length}
-use Rattle.columns.proofs.Spread.{Rowed, rowed_more, spread_is}
+use Rattle.columns.proofs.Spread.{rowed_more, spread_is}
+use Rattle.columns.proofs.Columns.of.Invariants.{none}
 use Rattle.columns.proofs.Columns.of.Goals as goal
 use Rattle.columns.proofs.Columns.of.Goals.{Start}
 
--- what would stand past the table's end
-abbrev none : Slot
-none = record { held = Floor nan }
-
 -- the table has 32 places
-sized : (c : Start) → length c.args.self.slots ≡ 32
+sized : (c : Start) → length c.args.table.slots ≡ 32
 sized c = search (mapped, rules)
 
 pub rows-init : goal.rows-init
 rows-init c =
-    let e : c.rows_of-n.result ≡ min c.args.self.count 32 = c.rows_of-n.ensures in
+    let e : c.rows_of-n.result ≡ min c.args.table.count 32 = c.rows_of-n.ensures in
     (omega arith, e, (refl, refl), λ i h. absurd (nothing i h))
   where
     nothing : (i : ℕ) → i < 0 → ⊥
@@ -36,7 +30,7 @@ rows-preserved c =
       omega arith,
       h.1,
       (simp length-set h.2.0, six_length here.numbers (6 * here.j) c.flattened-row.result ∙ h.2.1),
-      rowed_more here.kinds here.numbers c.args.self.slots none here.j c.flattened-row.result _ c.flattened-row.ensures h.2.0 h.2.1 (sized (goal.at.rows-preserved c).Start) small h.3,
+      rowed_more here.kinds here.numbers c.args.table.slots none here.j c.flattened-row.result _ c.flattened-row.ensures h.2.0 h.2.1 (sized (goal.at.rows-preserved c).Start) small h.3,
     )
 
 pub returns : goal.returns
