@@ -1,23 +1,20 @@
-use Prim.Native.Nat.{◌-◌, ◌≤◌, ◌<◌}
-use mathlib.Core.Logic.{⊎_elim}
+use Prim.Native.Nat.{◌≤◌, ◌<◌}
 use native.Mathlib.Omega.{arith}
-use borrow.Author.Rules.{rules}
 use lib.ListN.{length, get_or}
-use Rattle.columns.specs.Columns.{columns_of}
-use Rattle.choice.proofs.Chooses.{Choosing, chooses_first, chooses_one, chooses_barred, chooses_dear, chooses_last}
+use Rattle.choice.proofs.Chooses.{chooses_first, chooses_one, chooses_barred, chooses_dear, chooses_last}
 use Rattle.choice.proofs.choose_parent.Goals as goal
-use Rattle.choice.proofs.choose_parent.Goals.{After-i-1, In-neighbours, Start}
+use Rattle.choice.proofs.choose_parent.Goals.{After-i-1, Start, else-via-least, then-via-least+else-accepts, then-via-least+then-accepts}
 
 -- the neighbour is a node
 module _ (c : After-i-1) where
-  abbrev turn : In-neighbours
+  abbrev turn : After-i-1
   turn = c
 
   abbrev start : Start
-  start = turn.before
+  start = c.before.before.before.before.before.before.before.before.before.before
 
   node : get_or start.args.found.now turn.neighbours.k 0 < start.args.n
-  node = start.pre.3 _ turn.neighbours-test.taken
+  node = start.requires.3 _ turn.neighbours-test.true
 
 pub neighbours-init : goal.neighbours-init
 neighbours-init c =
@@ -52,11 +49,9 @@ neighbours-preserved c =
     let s = start (goal.at.neighbours-preserved c).After-i-1 in
     let h = (turn (goal.at.neighbours-preserved c).After-i-1).neighbours.invariant in
     let more = (turn (goal.at.neighbours-preserved c).After-i-1).neighbours-test.true in
-    let long : s.args.many ≤ length s.args.found.now = omega (arith, s.pre.0, s.pre.2, s.pre.4) in
+    let long : s.args.many ≤ length s.args.found.now = omega (arith, s.requires.0, s.requires.2, s.requires.4) in
     let far = c.distance-in-neighbours.ensures in
-    ⊎_elim (λ w. chooses_one h s.pre.0 more long (node (goal.at.neighbours-preserved c).After-i-1) far w.1.ensures w.0.taken w.2.taken w.3 w.4)
-    (⊎_elim (λ w. chooses_barred h s.pre.0 more long (node (goal.at.neighbours-preserved c).After-i-1) far w.1.ensures w.0.taken w.2.left w.3 w.4)
-    (λ w. chooses_dear h s.pre.0 more long (node (goal.at.neighbours-preserved c).After-i-1) far w.0.left w.1 w.2)) c.if-via-least.branch
+    elim c.if-via-least.branch [ then-via-least+then-accepts w ↦ chooses_one h s.requires.0 more long (node (goal.at.neighbours-preserved c).After-i-1) far w.accepts.ensures w.if-via-least.true w.if-accepts.true w.parent-is w.least-is | then-via-least+else-accepts w ↦ chooses_barred h s.requires.0 more long (node (goal.at.neighbours-preserved c).After-i-1) far w.accepts.ensures w.if-via-least.true w.if-accepts.false w.parent-is w.least-is | else-via-least w ↦ chooses_dear h s.requires.0 more long (node (goal.at.neighbours-preserved c).After-i-1) far w.if-via-least.false w.parent-is w.least-is ]
 
 pub returns : goal.returns
 returns c = chooses_last c.neighbours.invariant c.neighbours-test.false
