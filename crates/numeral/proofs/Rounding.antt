@@ -57,7 +57,11 @@ divides f (fin false m e) (fin false n d) a b p q h =
   where
     below : n * up d * 1 ≡ b * down d → 0 < n * up d * down e
     below v = mul-pos (subst (λ (x : ℕ). 0 < x) (sym v ∙ mul-one (n * up d)) (mul-pos h (down_pos d))) (down_pos e)
+divides f nan y a b p q h = elim p [ ]
+divides f (inf _) y a b p q h = elim p [ ]
 divides f (fin true m e) y a b p q h = absurd (subst T p.0 tt)
+divides f (fin false m e) nan a b p q h = elim q [ ]
+divides f (fin false m e) (inf _) a b p q h = elim q [ ]
 divides f (fin false m e) (fin true n d) a b p q h = absurd (subst T q.0 tt)
 
 pub one_division_rounds_once : (a b : ℕ) → a ≤ 2 ^ 53 → b ≤ 2 ^ 53 → 0 < b

@@ -1,5 +1,4 @@
 use native.Mathlib.Omega.{arith}
-use borrow.Author.Rules.{rules}
 use Rattle.numeral.proofs.Cases.{power_small, exact, plain, negated, too_many_digits, too_many_places}
 use Rattle.numeral.proofs.decimal.Goals as goal
 
