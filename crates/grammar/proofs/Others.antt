@@ -1,57 +1,66 @@
--- The last arm of a `match` on a verb is told which verbs come to it, by their tags.
-use Prim.Native.Nat.{ℕ}
-use mathlib.Core.List.{List, [], ◌∷◌, map}
-use mathlib.Core.Logic.{inl, inr}
-use mathlib.Core.Path.{◌≡◌, refl, sym, ap, ◌∙◌}
-use denote.Enum.Declared.{tag_of}
-use lib.ListN.{get_or}
-use types.Run.{OneOf}
-use Rattle.grammar.specs.contracts.Verb.{the_type}
+-- The last arm of a `match` on a verb: a table with nothing for the verbs that come to it has nothing for one of them.
+use mathlib.Core.List.{[], ◌∷◌, map}
+use mathlib.Core.Path.{◌≡◌, refl}
 use Rattle.grammar.specs.declared.Verb.{Verb}
 use Rattle.grammar.specs.declared.Verb.TheVariants.{Setup, Keepout, Solve, Construct, Goals, Query, Tables, Distance, Between, Steer, Valid, Steps, Motion, Other}
 
-abbrev pub tag : Verb → ℕ
-tag verb = tag_of the_type verb
-
--- the verb of a tag
-at : ℕ → Verb
-at k =
-    get_or
-    (Setup ∷ Keepout ∷ Solve ∷ Construct ∷ Goals ∷ Query ∷ Tables ∷ Distance ∷ Between ∷ Steer ∷ Valid ∷ Steps ∷ Motion ∷ Other ∷ [])
-    k
-    Other
-
-at_tag : (verb : Verb) → at (tag verb) ≡ verb
-unfolding at
-at_tag Setup = refl
-at_tag Keepout = refl
-at_tag Solve = refl
-at_tag Construct = refl
-at_tag Goals = refl
-at_tag Query = refl
-at_tag Tables = refl
-at_tag Distance = refl
-at_tag Between = refl
-at_tag Steer = refl
-at_tag Valid = refl
-at_tag Steps = refl
-at_tag Motion = refl
-at_tag Other = refl
-
-tag_one : (v w : Verb) → tag v ≡ tag w → v ≡ w
-tag_one v w e = sym (at_tag v) ∙ (ap at e ∙ at_tag w)
-
-module _ {B : Type 0} (none : B) (row : Verb → B) (verb : Verb) where
-  none_in :
-      (v : Verb) (vs : List Verb) →
-      map row (v ∷ vs) ≡ map (λ w. none) (v ∷ vs) →
-      OneOf (map tag (v ∷ vs)) (tag verb) →
+module _ {B : Type 0} (none : B) (row : Verb → B) where
+  -- verbs that are none of the mount's own calls
+  pub none_for_mount :
+      map row (Keepout ∷ Solve ∷ Construct ∷ Goals ∷ Query ∷ Tables ∷ Other ∷ []) ≡ map (λ w. none) (Keepout ∷ Solve ∷ Construct ∷ Goals ∷ Query ∷ Tables ∷ Other ∷ []) →
+      (verb : Verb) → (verb ≡ Setup → ⊥) → (verb ≡ Distance → ⊥) → (verb ≡ Between → ⊥) → (verb ≡ Steer → ⊥) → (verb ≡ Valid → ⊥) → (verb ≡ Steps → ⊥) → (verb ≡ Motion → ⊥) →
       none ≡ row verb
-  none_in v [] same is = cc (tag_one verb v is)
-  none_in v (w ∷ vs) same (inl is) = cc (tag_one verb v is)
-  none_in v (w ∷ vs) same (inr is) = none_in w vs (cc) is
+  none_for_mount same Setup setup _ _ _ _ _ _ = absurd (setup refl)
+  none_for_mount same Keepout _ _ _ _ _ _ _ = cc
+  none_for_mount same Solve _ _ _ _ _ _ _ = cc
+  none_for_mount same Construct _ _ _ _ _ _ _ = cc
+  none_for_mount same Goals _ _ _ _ _ _ _ = cc
+  none_for_mount same Query _ _ _ _ _ _ _ = cc
+  none_for_mount same Tables _ _ _ _ _ _ _ = cc
+  none_for_mount same Distance _ distance _ _ _ _ _ = absurd (distance refl)
+  none_for_mount same Between _ _ between _ _ _ _ = absurd (between refl)
+  none_for_mount same Steer _ _ _ steer _ _ _ = absurd (steer refl)
+  none_for_mount same Valid _ _ _ _ valid _ _ = absurd (valid refl)
+  none_for_mount same Steps _ _ _ _ _ steps _ = absurd (steps refl)
+  none_for_mount same Motion _ _ _ _ _ _ motion = absurd (motion refl)
+  none_for_mount same Other _ _ _ _ _ _ _ = cc
 
-  -- a table with nothing for these verbs has nothing for one of them
-  pub none_for : (vs : List Verb) → map row vs ≡ map (λ w. none) vs → OneOf (map tag vs) (tag verb) → none ≡ row verb
-  none_for [] same is = absurd is
-  none_for (v ∷ vs) same is = none_in v vs same is
+  -- verbs that are none of a tree planner's calls
+  pub none_for_tree :
+      map row (Construct ∷ Goals ∷ Query ∷ Distance ∷ Between ∷ Steer ∷ Valid ∷ Steps ∷ Motion ∷ Other ∷ []) ≡ map (λ w. none) (Construct ∷ Goals ∷ Query ∷ Distance ∷ Between ∷ Steer ∷ Valid ∷ Steps ∷ Motion ∷ Other ∷ []) →
+      (verb : Verb) → (verb ≡ Setup → ⊥) → (verb ≡ Keepout → ⊥) → (verb ≡ Solve → ⊥) → (verb ≡ Tables → ⊥) →
+      none ≡ row verb
+  none_for_tree same Setup setup _ _ _ = absurd (setup refl)
+  none_for_tree same Keepout _ keepout _ _ = absurd (keepout refl)
+  none_for_tree same Solve _ _ solve _ = absurd (solve refl)
+  none_for_tree same Construct _ _ _ _ = cc
+  none_for_tree same Goals _ _ _ _ = cc
+  none_for_tree same Query _ _ _ _ = cc
+  none_for_tree same Tables _ _ _ tables = absurd (tables refl)
+  none_for_tree same Distance _ _ _ _ = cc
+  none_for_tree same Between _ _ _ _ = cc
+  none_for_tree same Steer _ _ _ _ = cc
+  none_for_tree same Valid _ _ _ _ = cc
+  none_for_tree same Steps _ _ _ _ = cc
+  none_for_tree same Motion _ _ _ _ = cc
+  none_for_tree same Other _ _ _ _ = cc
+
+  -- verbs that are none of PRM's calls
+  pub none_for_prm :
+      map row (Solve ∷ Distance ∷ Between ∷ Steer ∷ Valid ∷ Steps ∷ Motion ∷ Other ∷ []) ≡ map (λ w. none) (Solve ∷ Distance ∷ Between ∷ Steer ∷ Valid ∷ Steps ∷ Motion ∷ Other ∷ []) →
+      (verb : Verb) → (verb ≡ Setup → ⊥) → (verb ≡ Keepout → ⊥) → (verb ≡ Construct → ⊥) → (verb ≡ Goals → ⊥) → (verb ≡ Query → ⊥) → (verb ≡ Tables → ⊥) →
+      none ≡ row verb
+  none_for_prm same Setup setup _ _ _ _ _ = absurd (setup refl)
+  none_for_prm same Keepout _ keepout _ _ _ _ = absurd (keepout refl)
+  none_for_prm same Solve _ _ _ _ _ _ = cc
+  none_for_prm same Construct _ _ construct _ _ _ = absurd (construct refl)
+  none_for_prm same Goals _ _ _ goals _ _ = absurd (goals refl)
+  none_for_prm same Query _ _ _ _ query _ = absurd (query refl)
+  none_for_prm same Tables _ _ _ _ _ tables = absurd (tables refl)
+  none_for_prm same Distance _ _ _ _ _ _ = cc
+  none_for_prm same Between _ _ _ _ _ _ = cc
+  none_for_prm same Steer _ _ _ _ _ _ = cc
+  none_for_prm same Valid _ _ _ _ _ _ = cc
+  none_for_prm same Steps _ _ _ _ _ _ = cc
+  none_for_prm same Motion _ _ _ _ _ _ = cc
+  none_for_prm same Other _ _ _ _ _ _ = cc

@@ -1,4 +1,3 @@
-use borrow.Author.Rules.{rules}
 use Rattle.grammar.specs.Rows.{row_of}
 use Rattle.grammar.proofs.Row.of.Goals as goal
 

@@ -1,9 +1,6 @@
 use mathlib.Core.Path.{refl, ◌∙◌}
-use mathlib.Core.List.{[], ◌∷◌}
-use borrow.Author.Rules.{rules}
-use Rattle.grammar.specs.declared.Verb.TheVariants.{Keepout, Solve, Construct, Goals, Query, Tables, Other}
 use Rattle.grammar.specs.Rows.{no_row, mount_row}
-use Rattle.grammar.proofs.Others.{none_for}
+use Rattle.grammar.proofs.Others.{none_for_mount}
 use Rattle.grammar.proofs.Row.of_mount.Goals as goal
 
 pub returns-in-Setup : goal.returns-in-Setup
@@ -38,7 +35,11 @@ pub returns-in_default : goal.returns-in_default
 unfolding mount_row
 returns-in_default c =
     c.none.ensures ∙
-    none_for no_row mount_row c.args.verb
-    (Keepout ∷ Solve ∷ Construct ∷ Goals ∷ Query ∷ Tables ∷ Other ∷ [])
-    refl
-    c.in-Setup.keys8
+    none_for_mount no_row mount_row refl c.args.verb
+    c.in_default.not-Setup
+    c.in_default.not-Distance
+    c.in_default.not-Between
+    c.in_default.not-Steer
+    c.in_default.not-Valid
+    c.in_default.not-Steps
+    c.in_default.not-Motion

@@ -1,9 +1,6 @@
 use mathlib.Core.Path.{refl, ◌∙◌}
-use mathlib.Core.List.{[], ◌∷◌}
-use borrow.Author.Rules.{rules}
-use Rattle.grammar.specs.declared.Verb.TheVariants.{Solve, Distance, Between, Steer, Valid, Steps, Motion, Other}
 use Rattle.grammar.specs.Rows.{no_row, prm_row}
-use Rattle.grammar.proofs.Others.{none_for}
+use Rattle.grammar.proofs.Others.{none_for_prm}
 use Rattle.grammar.proofs.Row.of_prm.Goals as goal
 
 pub returns-in-Setup : goal.returns-in-Setup
@@ -34,7 +31,10 @@ pub returns-in_default : goal.returns-in_default
 unfolding prm_row
 returns-in_default c =
     c.none.ensures ∙
-    none_for no_row prm_row c.args.verb
-    (Solve ∷ Distance ∷ Between ∷ Steer ∷ Valid ∷ Steps ∷ Motion ∷ Other ∷ [])
-    refl
-    c.in-Setup.keys7
+    none_for_prm no_row prm_row refl c.args.verb
+    c.in_default.not-Setup
+    c.in_default.not-Keepout
+    c.in_default.not-Construct
+    c.in_default.not-Goals
+    c.in_default.not-Query
+    c.in_default.not-Tables

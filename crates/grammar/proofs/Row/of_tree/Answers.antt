@@ -1,9 +1,6 @@
 use mathlib.Core.Path.{refl, ◌∙◌}
-use mathlib.Core.List.{[], ◌∷◌}
-use borrow.Author.Rules.{rules}
-use Rattle.grammar.specs.declared.Verb.TheVariants.{Construct, Goals, Query, Distance, Between, Steer, Valid, Steps, Motion, Other}
 use Rattle.grammar.specs.Rows.{no_row, tree_row}
-use Rattle.grammar.proofs.Others.{none_for}
+use Rattle.grammar.proofs.Others.{none_for_tree}
 use Rattle.grammar.proofs.Row.of_tree.Goals as goal
 
 pub returns-in-Setup : goal.returns-in-Setup
@@ -23,4 +20,11 @@ unfolding tree_row
 returns-in-Tables c = rw c.in-Tables.is c.of_numbers.ensures
 
 pub returns-in_default : goal.returns-in_default
-returns-in_default c = let h = c.in_default in ?
+unfolding tree_row
+returns-in_default c =
+    c.none.ensures ∙
+    none_for_tree no_row (tree_row c.args.numbers) refl c.args.verb
+    c.in_default.not-Setup
+    c.in_default.not-Keepout
+    c.in_default.not-Solve
+    c.in_default.not-Tables
