@@ -4,7 +4,7 @@
 ghost use Rattle.std.specs.Prelude.{◌≡◌};
 ghost use Rattle.input.specs.Input.{new_of, next_of};
 
-use libc::STDIN_FILENO;
+use std::io::{Read, Stdin};
 
 // More bytes than any input has: what a loop over input counts down from, so that it is seen to end.
 pub const MOST: u64 = 0x4000_0000_0000_0000;
@@ -52,15 +52,18 @@ impl Input {
 }
 
 // With bytes to read, unless the input has ended. A read that fails ends it.
-fn filled(bytes: &mut [u8], input: Input) -> Input {
+fn filled(stdin: Stdin, bytes: &mut [u8], input: Input) -> Input {
     if input.ended {
         return input;
     }
     if input.at < input.end {
         return input;
     }
-    let got = libc::read(STDIN_FILENO, bytes);
-    let end = io::count(got, bytes);
+    let mut stdin = stdin;
+    let end = match stdin.read(bytes) {
+        Ok(count) => count,
+        Err(_) => 0,
+    };
     Input {
         at: 0,
         end,
@@ -69,8 +72,8 @@ fn filled(bytes: &mut [u8], input: Input) -> Input {
 }
 
 // The end of the input reads as a line's end, which may be missing there.
-pub fn peek(bytes: &mut [u8], input: Input) -> Peeked {
-    let input = filled(bytes, input);
+pub fn peek(stdin: Stdin, bytes: &mut [u8], input: Input) -> Peeked {
+    let input = filled(stdin, bytes, input);
     let at = input.at;
     if at < input.end {
         if at < bytes.len() {
