@@ -2,6 +2,7 @@
 ghost use Rattle.io.specs.Counts.{IsPrefixLen};
 
 use input::Input;
+use std::io::Stdin;
 
 // A word, and the input after it. The longest word that a call can have is 17 bytes long, so one that is cut at 18 fits no call. No
 // bytes: the line has no more words.
@@ -26,11 +27,11 @@ fn ends_word(byte: u8) -> bool {
     }
 }
 
-fn after_blanks(bytes: &mut [u8], input: Input) -> Input {
+fn after_blanks(stdin: Stdin, bytes: &mut [u8], input: Input) -> Input {
     let mut input = input;
     let mut turns = input::MOST;
     while turns > 0 {
-        let p = input::peek(bytes, input);
+        let p = input::peek(stdin, bytes, input);
         input = p.input;
         if !is_blank(p.byte) {
             return input;
@@ -41,15 +42,15 @@ fn after_blanks(bytes: &mut [u8], input: Input) -> Input {
     input
 }
 
-pub fn next(bytes: &mut [u8], input: Input) -> Word
+pub fn next(stdin: Stdin, bytes: &mut [u8], input: Input) -> Word
     ensures { IsPrefixLen result.len result.text }
 {
-    let mut input = after_blanks(bytes, input);
+    let mut input = after_blanks(stdin, bytes, input);
     let mut text = [0u8; 18];
     let mut len: usize = 0;
     let mut turns = input::MOST;
     while turns > 0 {
-        let p = input::peek(bytes, input);
+        let p = input::peek(stdin, bytes, input);
         input = p.input;
         if ends_word(p.byte) {
             return Word { text, len, input };
@@ -65,11 +66,11 @@ pub fn next(bytes: &mut [u8], input: Input) -> Word
 }
 
 // Past the line's end, whatever the line still has.
-pub fn after_line(bytes: &mut [u8], input: Input) -> Input {
+pub fn after_line(stdin: Stdin, bytes: &mut [u8], input: Input) -> Input {
     let mut input = input;
     let mut turns = input::MOST;
     while turns > 0 {
-        let p = input::peek(bytes, input);
+        let p = input::peek(stdin, bytes, input);
         let here = p.input;
         input = here.next();
         if p.byte == b'\n' {
