@@ -6,13 +6,15 @@ pub mod nodes;
 pub mod replies;
 pub mod routes;
 
-use libc::STDOUT_FILENO;
 use state::State;
+
+// Standard output's descriptor.
+const STDOUT: i32 = 1;
 
 // Writes the bytes that are used, and none are used any more.
 pub fn flush(out: &mut [u8], used: usize) -> usize {
     if used <= out.len() {
-        io::write_all(STDOUT_FILENO, &out[..used]);
+        io::write_all(STDOUT, &out[..used]);
     }
     0
 }

@@ -4,6 +4,7 @@ use input::Input;
 use keep_out::KeepOut;
 use keep_out_table::KeepOuts;
 use state::State;
+use std::io::Stdin;
 use words::word;
 
 #[derive(Clone, Copy)]
@@ -77,10 +78,10 @@ fn made_of(shape: Shape, numbers: [f64; 6]) -> KeepOut {
 }
 
 // The keep-out whose first word has been read.
-fn one(bytes: &mut [u8], shape: Shape, input: Input) -> Single {
+fn one(stdin: Stdin, bytes: &mut [u8], shape: Shape, input: Input) -> Single {
     let mut space = [0.0f64; 6];
     let size = size_of(shape);
-    let part = numbers::read(bytes, &mut space, size, false, input);
+    let part = numbers::read(stdin, bytes, &mut space, size, false, input);
     let input = part.input;
     Single {
         fits: 0 < size && part.fits,
@@ -98,12 +99,12 @@ fn longer(table: KeepOuts, held: KeepOut, count: usize) -> KeepOuts {
 }
 
 // From least to most keep-outs, up to the line's end.
-pub fn read(bytes: &mut [u8], least: usize, most: usize, input: Input) -> Listed {
+pub fn read(stdin: Stdin, bytes: &mut [u8], least: usize, most: usize, input: Input) -> Listed {
     let mut input = input;
     let mut table = KeepOuts::new();
     let mut count: usize = 0;
     while count < most {
-        let w = word::next(bytes, input);
+        let w = word::next(stdin, bytes, input);
         input = w.input;
         let text = w.text;
         let len = w.len;
@@ -115,7 +116,7 @@ pub fn read(bytes: &mut [u8], least: usize, most: usize, input: Input) -> Listed
             };
         }
         let shape = shape_of(&text[..len]);
-        let k = one(bytes, shape, input);
+        let k = one(stdin, bytes, shape, input);
         input = k.input;
         if !k.fits {
             return Listed {

@@ -3,6 +3,7 @@ use crate::{keep_outs, numbers};
 use grammar::{Planner, Row, Verb};
 use input::Input;
 use keep_out_table::KeepOuts;
+use std::io::Stdin;
 use words::word;
 
 #[derive(Clone, Copy)]
@@ -41,13 +42,19 @@ impl Line {
 }
 
 // The keep-outs that a row may end with, and the line's end.
-fn end(bytes: &mut [u8], row: Row, line: Line) -> Line {
-    let k = keep_outs::read(bytes, row.least_keep_outs, row.most_keep_outs, line.input);
+fn end(stdin: Stdin, bytes: &mut [u8], row: Row, line: Line) -> Line {
+    let k = keep_outs::read(
+        stdin,
+        bytes,
+        row.least_keep_outs,
+        row.most_keep_outs,
+        line.input,
+    );
     let input = k.input;
     if !k.fits {
         return Line::without_call(Kind::Other, input);
     }
-    let w = word::next(bytes, input);
+    let w = word::next(stdin, bytes, input);
     let input = w.input;
     if 0 < w.len {
         return Line::without_call(Kind::Other, input);
@@ -62,18 +69,18 @@ fn end(bytes: &mut [u8], row: Row, line: Line) -> Line {
         capacity: line.capacity,
         count: line.count,
         table,
-        input: word::after_line(bytes, input),
+        input: word::after_line(stdin, bytes, input),
     }
 }
 
 // A row's numbers, and what follows them.
-fn after_capacity(bytes: &mut [u8], space: &mut [f64], row: Row, line: Line) -> Line {
+fn after_capacity(stdin: Stdin, bytes: &mut [u8], space: &mut [f64], row: Row, line: Line) -> Line {
     let most = if row.has_list {
         input::MOST
     } else {
         row.numbers
     };
-    let n = numbers::read(bytes, space, most, row.has_list, line.input);
+    let n = numbers::read(stdin, bytes, space, most, row.has_list, line.input);
     let input = n.input;
     if !n.fits {
         return Line::without_call(Kind::Other, input);
@@ -81,11 +88,12 @@ fn after_capacity(bytes: &mut [u8], space: &mut [f64], row: Row, line: Line) -> 
     let mut line = line;
     line.count = n.value;
     line.input = input;
-    end(bytes, row, line)
+    end(stdin, bytes, row, line)
 }
 
 // A row's capacity, and what follows it.
 fn after_words(
+    stdin: Stdin,
     bytes: &mut [u8],
     space: &mut [f64],
     planner: Planner,
@@ -96,7 +104,7 @@ fn after_words(
     if !row.is_call {
         return Line::without_call(Kind::Other, input);
     }
-    let c = numbers::capacity(bytes, row, input);
+    let c = numbers::capacity(stdin, bytes, row, input);
     let input = c.input;
     if !c.fits {
         return Line::without_call(Kind::Other, input);
@@ -110,28 +118,34 @@ fn after_words(
         table: KeepOuts::new(),
         input,
     };
-    after_capacity(bytes, space, row, line)
+    after_capacity(stdin, bytes, space, row, line)
 }
 
 // A planner's verb, and what follows it.
-fn after_planner(bytes: &mut [u8], space: &mut [f64], planner: Planner, input: Input) -> Line {
-    let w = word::next(bytes, input);
+fn after_planner(
+    stdin: Stdin,
+    bytes: &mut [u8],
+    space: &mut [f64],
+    planner: Planner,
+    input: Input,
+) -> Line {
+    let w = word::next(stdin, bytes, input);
     let input = w.input;
     let text = w.text;
     let len = w.len;
     let verb = grammar::verb_of(&text[..len]);
-    after_words(bytes, space, planner, verb, input)
+    after_words(stdin, bytes, space, planner, verb, input)
 }
 
 // The next line, with its end. A line that is no call is not read to its end.
-pub fn read(bytes: &mut [u8], space: &mut [f64], input: Input) -> Line {
-    let w = word::next(bytes, input);
+pub fn read(stdin: Stdin, bytes: &mut [u8], space: &mut [f64], input: Input) -> Line {
+    let w = word::next(stdin, bytes, input);
     let input = w.input;
     let text = w.text;
     let len = w.len;
     if len == 0 {
-        return Line::without_call(Kind::Empty, word::after_line(bytes, input));
+        return Line::without_call(Kind::Empty, word::after_line(stdin, bytes, input));
     }
     let planner = grammar::planner_of(&text[..len]);
-    after_planner(bytes, space, planner, input)
+    after_planner(stdin, bytes, space, planner, input)
 }

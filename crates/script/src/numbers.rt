@@ -2,6 +2,7 @@
 use grammar::Row;
 use input::Input;
 use numeral::NumeralMade;
+use std::io::Stdin;
 use words::number::Whole;
 use words::{number, word};
 
@@ -17,9 +18,9 @@ pub struct Part {
 }
 
 // A row's capacity, 0 where it has none.
-pub fn capacity(bytes: &mut [u8], row: Row, input: Input) -> Part {
+pub fn capacity(stdin: Stdin, bytes: &mut [u8], row: Row, input: Input) -> Part {
     if row.has_capacity {
-        let w = word::next(bytes, input);
+        let w = word::next(stdin, bytes, input);
         let text = w.text;
         let len = w.len;
         let input = w.input;
@@ -45,12 +46,19 @@ pub fn capacity(bytes: &mut [u8], row: Row, input: Input) -> Part {
 
 // So many numbers, put one after the other into memory that the caller lends; more than that has room for do not fit. A list may have
 // fewer, since it ends with the line.
-pub fn read(bytes: &mut [u8], space: &mut [f64], most: u64, is_list: bool, input: Input) -> Part {
+pub fn read(
+    stdin: Stdin,
+    bytes: &mut [u8],
+    space: &mut [f64],
+    most: u64,
+    is_list: bool,
+    input: Input,
+) -> Part {
     let mut input = input;
     let mut count: usize = 0;
     let mut left = most;
     while left > 0 {
-        let w = word::next(bytes, input);
+        let w = word::next(stdin, bytes, input);
         input = w.input;
         let text = w.text;
         let len = w.len;
