@@ -1,3 +1,2 @@
 // Document 01's worked examples and its decimal constants, computed by the checker: they stand in specs/, and no code belongs to them.
 #![tactic(auto)]
-

@@ -153,7 +153,7 @@ samples-preserved c =
     × (whole (goal.at.samples-preserved c).After-step-e ≡ run_of (p (goal.at.samples-preserved c).After-step-e) (nodes_of x) (h.taken + 1) (samples_of (drop (h.at + 3) c.args.samples.now))) in
     let r : H c.if-e.tree =
     elim c.if-e.branch [
-      then-e+then-n-lt-MOST+else-is_satisfied w ↦
+      | then-e+then-n-lt-MOST+else-is_satisfied w ↦
           subst H (sym w.tree-is) (
             (omega arith, omega (arith, w.if-n-lt-MOST.true)),
             put_sized (t (goal.at.samples-preserved c).After-step-e) _ _ h.invariant.3,
