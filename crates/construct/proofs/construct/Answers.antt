@@ -1,9 +1,7 @@
-use Prim.Native.Nat.{ℕ, ◌≤◌, ◌-◌, ◌+◌, min}
+use Prim.Native.Nat.{ℕ, ◌≤◌, ◌+◌, min}
 use mathlib.Core.List.{List, []}
-use mathlib.Core.Logic.{⊎_elim}
 use mathlib.Core.Path.{◌≡◌, refl, sym, ◌∙◌, ap}
 use native.Mathlib.Omega.{arith}
-use borrow.Author.Rules.{rules}
 use lib.ListN.{length}
 use Rattle.answer.specs.declared.Answer.TheVariants.{Done, Full}
 use Rattle.keep_out.specs.declared.KeepOut.{KeepOut}
@@ -14,7 +12,7 @@ use Rattle.roadmap.specs.Map.{Milestone}
 use Rattle.construct.specs.Construct.{Constructed, run_of, construct_of}
 use Rattle.roadmap.specs.View.{span_of, view_of, milestones_of}
 use Rattle.roadmap.proofs.View.{clean}
-use Rattle.construct.proofs.Runs.{Building, construct_none, construct_some, build_passed, build_full, build_added, build_ends}
+use Rattle.construct.proofs.Runs.{construct_none, construct_some, build_passed, build_full, build_added, build_ends}
 use Rattle.construct.proofs.construct.Goals as goal
 use Rattle.construct.proofs.construct.Goals.{After-is_valid, After-of-columns, Start, else-is_valid, then-is_valid+then-count-lt-MOST}
 
@@ -34,17 +32,6 @@ module _ (c : After-of-columns) where
   answered e is =
       let none : min start.args.map.count 256 ≡ 0 = omega (arith, c.if-held-ne0.false) in
       sym is ∙ ap run c.of-columns.ensures.is ∙ sym (construct_none _ _ _ _ _ _ _ _ _ _ none)
-
--- what is known after the test of a sample
-module _ (c : After-is_valid) where
-  abbrev turn : After-is_valid
-  turn = c
-
-  abbrev head : After-is_valid
-  head = c
-
-  more : head.samples.at + 3 ≤ length (start head.before).args.samples.now
-  more = omega (arith, turn.samples-test.true)
 
 pub returns-then-held-ne0 : goal.returns-then-held-ne0
 unfolding milestones_of
@@ -67,20 +54,24 @@ samples-init c =
 
 pub join_earlier-requires : goal.join_earlier-requires
 join_earlier-requires c =
-    let h = (head (goal.at.join_earlier-requires c).After-is_valid).samples.invariant in
-    (c.if-count-lt-MOST.true, h.legs_sized)
+    (c.if-count-lt-MOST.true, c.samples.invariant.legs_sized)
 
 pub returns-else-count-lt-MOST : goal.returns-else-count-lt-MOST
 unfolding milestones_of
 returns-else-count-lt-MOST c =
-    let h = (head (goal.at.returns-else-count-lt-MOST c).After-is_valid).samples in
+    let h = c.samples in
+    let more : h.at + 3 ≤ length c.args.samples.now = omega (arith, c.samples-test.true) in
     ap (λ (ms : List Milestone). record { map = ms; answer = Full; taken = h.taken + 1 }) c.empty-none.ensures
-    ∙ answered (head (goal.at.returns-else-count-lt-MOST c).After-is_valid).before _ (build_full h.invariant (more (goal.at.returns-else-count-lt-MOST c).After-is_valid) c.is_valid.ensures c.if-is_valid.true c.if-count-lt-MOST.false)
+    ∙ answered (goal.at.returns-else-count-lt-MOST c).After-of-columns _ (build_full h.invariant more c.is_valid.ensures c.if-is_valid.true c.if-count-lt-MOST.false)
 
 pub samples-preserved : goal.samples-preserved
 samples-preserved c =
-    let h = (head (goal.at.samples-preserved c).After-is_valid).samples.invariant in
-    elim c.if-is_valid.branch [ then-is_valid+then-count-lt-MOST w ↦ build_added h (more (goal.at.samples-preserved c).After-is_valid) c.is_valid.ensures w.if-is_valid.true w.if-count-lt-MOST.true (rw w.13 w.9.ensures) w.10 w.11 w.12 w.14 | else-is_valid w ↦ build_passed h (more (goal.at.samples-preserved c).After-is_valid) c.is_valid.ensures w.if-is_valid.false w.az-is w.el-is w.feed-is w.legs-is w.count-is ]
+    let h = c.samples.invariant in
+    let more : c.samples.at + 3 ≤ length c.args.samples.now = omega (arith, c.samples-test.true) in
+    elim c.if-is_valid.branch [
+      | then-is_valid+then-count-lt-MOST w ↦ build_added h more c.is_valid.ensures w.if-is_valid.true w.if-count-lt-MOST.true (rw w.legs-is w.join_earlier.ensures) w.az-is w.el-is w.feed-is w.count-is
+      | else-is_valid w ↦ build_passed h more c.is_valid.ensures w.if-is_valid.false w.az-is w.el-is w.feed-is w.legs-is w.count-is
+    ]
 
 pub returns : goal.returns
 unfolding milestones_of

@@ -1,15 +1,9 @@
-use Prim.Native.Nat.{ℕ, ◌≤◌, ◌-◌}
-use mathlib.Core.Logic.{⊎_elim}
 use mathlib.Core.Path.{◌≡◌, ◌∙◌}
 use native.Mathlib.Omega.{arith}
-use borrow.Author.Rules.{rules}
-use Rattle.columns.specs.Columns.{columns_of}
-use Rattle.construct.specs.Construct.{joined_of}
-use Rattle.state.specs.Rows.{row_at}
-use Rattle.roadmap.specs.View.{Joins}
 use Rattle.roadmap.proofs.Joins.{joins_none, joins_yes, joins_not}
 use Rattle.construct.proofs.Joined.{joined_far, joined_near}
 use Rattle.construct.proofs.join_earlier.Goals as goal
+use Rattle.construct.proofs.join_earlier.Goals.{then-distance-radius+then-accepts, then-distance-radius+else-accepts, else-distance-radius}
 
 pub earlier-init : goal.earlier-init
 earlier-init c = (omega arith, joins_none _ _ _)
@@ -22,12 +16,11 @@ pub earlier-preserved : goal.earlier-preserved
 earlier-preserved c =
     let far = c.distance.ensures in (
       omega arith,
-      ⊎_elim
-          (λ w. rw w.5 (joins_yes _ _ _ _ _ _ c.earlier.invariant.1 w.4.ensures (joined_near _ _ _ _ _ _ _ far _ w.1.ensures w.0.taken ∙ w.2.taken)))
-          (λ w.
-          ⊎_elim
-          (λ v. rw v.3 (joins_not _ _ _ _ _ c.earlier.invariant.1 (joined_near _ _ _ _ _ _ _ far _ v.1.ensures v.0.taken ∙ v.2.left)))
-          (λ v. rw v.1 (joins_not _ _ _ _ _ c.earlier.invariant.1 (joined_far _ _ _ _ _ _ _ far v.0.left))) w) c.if-distance-radius.branch,
+      elim c.if-distance-radius.branch [
+        | then-distance-radius+then-accepts w ↦ rw w.legs-is (joins_yes _ _ _ _ _ _ c.earlier.invariant.1 w.link.ensures (joined_near _ _ _ _ _ _ _ far _ w.accepts.ensures w.if-distance-radius.true ∙ w.if-accepts.true))
+        | then-distance-radius+else-accepts w ↦ rw w.legs-is (joins_not _ _ _ _ _ c.earlier.invariant.1 (joined_near _ _ _ _ _ _ _ far _ w.accepts.ensures w.if-distance-radius.true ∙ w.if-accepts.false))
+        | else-distance-radius w ↦ rw w.legs-is (joins_not _ _ _ _ _ c.earlier.invariant.1 (joined_far _ _ _ _ _ _ _ far w.if-distance-radius.false))
+      ],
     )
 
 pub returns : goal.returns

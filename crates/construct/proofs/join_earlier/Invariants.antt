@@ -1,14 +1,8 @@
 use Prim.Native.Nat.{ℕ, ◌≤◌, ◌-◌}
-use mathlib.Core.Logic.{⊎_elim}
-use mathlib.Core.Path.{◌≡◌, ◌∙◌}
-use native.Mathlib.Omega.{arith}
-use borrow.Author.Rules.{rules}
 use Rattle.columns.specs.Columns.{columns_of}
 use Rattle.construct.specs.Construct.{joined_of}
 use Rattle.state.specs.Rows.{row_at}
 use Rattle.roadmap.specs.View.{Joins}
-use Rattle.roadmap.proofs.Joins.{joins_none, joins_yes, joins_not}
-use Rattle.construct.proofs.Joined.{joined_far, joined_near}
 use Rattle.construct.proofs.join_earlier.Given as goal
 
 abbrev pub invariant-earlier : goal.invariant-earlier
