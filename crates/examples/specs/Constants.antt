@@ -35,7 +35,3 @@ constants =
     -- if q isn't at most 4,096 the motion is not accepted
     ∷ motion.most_points is whole 4096
     ∷ []
-
-pub constants_are : T (are_same constants)
-unfolding constants are_same same round of_bits to_bits
-constants_are = tt

@@ -1,0 +1,3 @@
+-- The one statement on each table.
+pub mod Constants
+pub mod Examples
