@@ -1,4 +1,5 @@
 // The planners for a host in C or Rust, and for the benchmark: a setup and a solve, or a roadmap and its queries, in one call on plain numbers.
+// The crate host_c exports these functions to C under the same names.
 #![tactic(auto)]
 
 ghost use Rattle.std.specs.Prelude.{◌≡◌};
@@ -33,8 +34,7 @@ fn refused(answer: usize) -> Report
 }
 
 // Sets a planner up and solves once. The fifteen numbers are those of the setup, in document 01's order.
-#[unsafe(no_mangle)]
-pub extern "C" fn rindmosaic_rrt<'a>(
+pub fn rindmosaic_rrt<'a>(
     setup: &'a [f64; 15],
     kinds: &'a [u8; 32],
     numbers: &'a [f64; 192],
@@ -65,8 +65,7 @@ pub extern "C" fn rindmosaic_rrt<'a>(
 }
 
 // The same with RRT-Connect.
-#[unsafe(no_mangle)]
-pub extern "C" fn rindmosaic_connect<'a>(
+pub fn rindmosaic_connect<'a>(
     setup: &'a [f64; 15],
     kinds: &'a [u8; 32],
     numbers: &'a [f64; 192],
@@ -97,8 +96,7 @@ pub extern "C" fn rindmosaic_connect<'a>(
 }
 
 // The same with RRT*, whose search radius comes beside the fifteen numbers.
-#[unsafe(no_mangle)]
-pub extern "C" fn rindmosaic_star<'a>(
+pub fn rindmosaic_star<'a>(
     setup: &'a [f64; 15],
     search_radius: f64,
     kinds: &'a [u8; 32],
@@ -137,8 +135,7 @@ pub extern "C" fn rindmosaic_star<'a>(
 // PRM: a setup, a construction, keep-outs that are added and queries. With none added and no query the call builds and reports; with many it adds to one
 // roadmap, or asks the same of it again, so that each can be timed apart. The eighth of the fifteen numbers is connection_radius. The setup has the first
 // `keep_outs` rows of the columns, and the next `added` rows are added to what was built, in order. The queries are at most the 255 that a byte holds.
-#[unsafe(no_mangle)]
-pub extern "C" fn rindmosaic_prm<'a>(
+pub fn rindmosaic_prm<'a>(
     setup: &'a [f64; 15],
     kinds: &'a [u8; 32],
     numbers: &'a [f64; 192],

@@ -7,6 +7,7 @@ use rrt::Rrt;
 use rrt_connect::RrtConnect;
 use rrt_star::RrtStar;
 use script::{Kind, Line};
+use std::io::Stdin;
 
 // What the calls work on: one planner of each kind, and the mount.
 #[derive(Clone, Copy)]
@@ -122,13 +123,14 @@ fn answer(out: &mut [u8], space: &[f64], planners: Planners, line: Line, number:
 
 // One line, of which the number is given.
 fn step(
+    stdin: Stdin,
     bytes: &mut [u8],
     out: &mut [u8],
     space: &mut [f64],
     script: Script,
     number: u64,
 ) -> Script {
-    let line = script::read(bytes, space, script.input);
+    let line = script::read(stdin, bytes, space, script.input);
     let input = line.input;
     let planners = script.planners;
     let kind = line.kind;
@@ -174,7 +176,7 @@ fn uninitialised() -> Planners {
 }
 
 // Lines are counted from 1.
-pub fn run(bytes: &mut [u8], out: &mut [u8], space: &mut [f64]) {
+pub fn run(stdin: Stdin, bytes: &mut [u8], out: &mut [u8], space: &mut [f64]) {
     let planners = uninitialised();
     let mut script = Script {
         goes_on: true,
@@ -183,7 +185,7 @@ pub fn run(bytes: &mut [u8], out: &mut [u8], space: &mut [f64]) {
     };
     let mut number: u64 = 1;
     while number < input::MOST {
-        script = step(bytes, out, space, script, number);
+        script = step(stdin, bytes, out, space, script, number);
         if !script.goes_on {
             return;
         }

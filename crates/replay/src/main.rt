@@ -4,10 +4,10 @@
 
 mod calls;
 
-fn main() {
+fn main(rt: HostRuntime) {
     let mut bytes = [0u8; 65536];
     let mut out = [0u8; 4096];
     // The most numbers that a line may have.
     let mut space = [0.0f64; 24576];
-    calls::run(&mut bytes, &mut out, &mut space);
+    calls::run(rt.stdin(), &mut bytes, &mut out, &mut space);
 }
