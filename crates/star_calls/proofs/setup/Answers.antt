@@ -8,4 +8,4 @@ use Rattle.star_calls.proofs.setup.Goals as goal
 pub returns : goal.returns
 unfolding setup_from
 returns c =
-    ap (λ (t : Told StarPlan Costed). t.planner) (rw (c.limits-limits.ensures, c.length-segment.ensures, c.length-max_distance.ensures, c.length-search_radius.ensures, c.state-start.ensures, c.goal-goal.ensures) at c.setup-done.ensures)
+    ap (λ (t : Told StarPlan Costed). t.planner) (simp (c.limits-limits.ensures, c.length-segment.ensures, c.length-max_distance.ensures, c.length-search_radius.ensures, c.state-start.ensures, c.goal-goal.ensures) at c.setup-done.ensures)
