@@ -4,6 +4,7 @@ use Rattle.grammar.proofs.Others.{none_for_tree}
 use Rattle.star_calls.specs.Left.{call_of}
 use Rattle.star_calls.proofs.call.Goals as goal
 
+-- each arm knows its verb, and the last one which verbs it is not
 pub returns-in-Setup : goal.returns-in-Setup
 unfolding call_of tree_call
 returns-in-Setup c =
