@@ -1,6 +1,5 @@
 -- The bits that the definitions write for document 01's decimals: one table, and one statement that each is the nearest float, by computation.
-use Rattle.std.specs.Prelude.{Bool, true, ◌&&◌, List, [], ◌∷◌, T, Float}
-use Rattle.std.specs.Float.Ieee.{round, of_bits, to_bits}
+use Rattle.std.specs.Prelude.{Bool, true, ◌&&◌, List, [], ◌∷◌, Float}
 use Rattle.state.specs.Ranges as state
 use Rattle.fields.specs.Ranges as fields
 use Rattle.keep_out.specs.Good as keep_out

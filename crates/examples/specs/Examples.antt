@@ -1,67 +1,36 @@
 -- Document 01, "Examples on both sides": one table, and one statement that every row of it holds, by computation.
 -- A new kind of example is a constructor of `Case` and a line of `holds`; a new example is a row.
-use Rattle.std.specs.Prelude.{ℕ, ◌^◌, ◌*◌, ◌-◌, Bool, true, false, ◌&&◌, List, [], ◌∷◌, ◌++◌, map, T, eqb, length, replicate, Float}
+use Rattle.std.specs.Prelude.{ℕ, ◌^◌, ◌*◌, ◌-◌, Bool, true, false, ◌&&◌, List, [], ◌∷◌, ◌++◌, map, eqb, length, replicate, Float}
 use Rattle.std.specs.Bool.{beq}
-use Rattle.std.specs.Float.Ieee.{add, sub, mul, div, lt, le, of_int, of_bits, to_bits}
 use Rattle.answer.specs.Number.{number_of}
 use Rattle.answer.specs.declared.Answer.{Answer}
-use Rattle.state.specs.Ranges.{inside_of, within_of, coordinate_of, good_state, at_most_of, good_span}
-use Rattle.fields.specs.Ranges.{good_limits, good_length, good_goal}
-use Rattle.state.specs.Distance.{apart_of, wider_of, distance_of}
-use Rattle.state.specs.Steering.{interpolate_of, steer_by_of, steer_of}
-use Rattle.fields.specs.Satisfied.{satisfied_of}
+use Rattle.state.specs.Distance.{distance_of}
+use Rattle.state.specs.Steering.{steer_of}
 use Rattle.state.specs.declared.State.{State}
 use Rattle.fields.specs.declared.Goal.{Goal}
-use Rattle.keep_out.specs.Covers.{covers_of, covered_of}
-use Rattle.keep_out.specs.Good.{good_keep_out}
-use Rattle.keep_out_table.specs.Good.{all_good, good_table}
-use Rattle.keep_out_table.specs.Table.{keep_outs_of, empty_table}
+use Rattle.keep_out.specs.Covers.{covers_of}
+use Rattle.keep_out_table.specs.Table.{empty_table}
 use Rattle.keep_out.specs.declared.KeepOut.{KeepOut}
 use Rattle.keep_out.specs.declared.KeepOut.TheVariants.{Disc}
-use Rattle.mount.specs.Good.{good_mount}
-use Rattle.motion.specs.Valid.{valid_of}
-use Rattle.motion.specs.Points.{quotient_of, search_of, least_of, steps_of, part_way, part_ways, tested_of, Checked, too_many, points, checked_at, checked_of}
-use Rattle.motion.specs.Accepts.{all_valid, accepted_of, accepts_of}
+use Rattle.motion.specs.Points.{steps_of, Checked, too_many, points, checked_of}
+use Rattle.motion.specs.Accepts.{accepts_of}
 use Rattle.motion.specs.declared.Steps.{Steps}
 use Rattle.motion.specs.declared.Steps.TheVariants.{Count, Many}
-use Rattle.samples.specs.Samples.{all_coordinates, good_samples, samples_of}
-use Rattle.tree.specs.Table.{Nodes, grown_of, root_of}
-use Rattle.nearest.specs.Nearest.{nearest_from, nearest_of}
-use Rattle.step.specs.Step.{step_from, step_of}
-use Rattle.route.specs.Path.{climb_of, path_of, ancestors_of, upwards_of}
-use Rattle.route.specs.Written.{flat_of, written_of}
+use Rattle.tree.specs.Table.{Nodes}
 use Rattle.plan.specs.Plan.{Plan, unset, set}
-use Rattle.plan.specs.Setup.{good_setup, setting_of, setup_with}
-use Rattle.plan.specs.Solve.{Outcome, ended_of, solve_with}
-use Rattle.plan.specs.KeepOut.{longer_of}
+use Rattle.plan.specs.Solve.{Outcome}
 use Rattle.rrt.specs.Planner.{new_of, setup_of}
-use Rattle.rrt_run.specs.Run.{after_of, run_of}
 use Rattle.rrt.specs.Solve.{solve_of}
-use Rattle.extend.specs.Extend.{after_step, extend_of}
-use Rattle.turn.specs.Turn.{connect_ends_of, by_verdict, turn_of}
 use Rattle.turn.specs.Trees.{Trees}
-use Rattle.round.specs.Round.{round_of}
-use Rattle.ending.specs.Ending.{end_path}
 use Rattle.rrt_connect.specs.Planner as planner
-use Rattle.connect_run.specs.Run as run
 use Rattle.rrt_connect.specs.Solve as connect
-use Rattle.neighbours.specs.Neighbours.{neighbours_from, neighbours_of}
-use Rattle.choice.specs.Parent.{cost_via, is_better, choose_from, choose_of}
-use Rattle.rewire.specs.Rewiring.{cost_under, moves, rewire_of}
-use Rattle.star.specs.Grow as grow
-use Rattle.star.specs.Grow.{Costed, added_of, grow_of}
-use Rattle.star_run.specs.Run as star-run
+use Rattle.star.specs.Grow.{Costed}
 use Rattle.star_run.specs.Run.{StarPlan}
 use Rattle.rrt_star.specs.Planner as star
 use Rattle.rrt_star.specs.Solve as star-solve
-use Rattle.roadmap.specs.Map.{Milestone, milestone_at, mark_of, add_of, flags_of}
+use Rattle.roadmap.specs.Map.{Milestone}
 use Rattle.roadmap.specs.View.{span_of}
-use Rattle.construct.specs.Construct as roadmap
-use Rattle.queue.specs.Places as queue
 use Rattle.search.specs.Search as search
-use Rattle.search.specs.Query as search-query
-use Rattle.prune.specs.Hit.{meets_of, hit_among, hit_of}
-use Rattle.prune.specs.Prune.{left_of, leaves_of, pruned_of}
 use Rattle.prm.specs.Planner as prm
 use Rattle.prm.specs.Construct as prm-construct
 use Rattle.prm.specs.Query as prm-query

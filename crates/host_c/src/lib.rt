@@ -46,7 +46,15 @@ pub extern "C" fn rindmosaic_star<'a>(
 ) -> Report
     ensures { Called (star_call setup.now search_radius kinds.now keep_outs samples.now route.old) kinds.now numbers.now keep_outs result route.new }
 {
-    host::rindmosaic_star(setup, search_radius, kinds, numbers, keep_outs, samples, route)
+    host::rindmosaic_star(
+        setup,
+        search_radius,
+        kinds,
+        numbers,
+        keep_outs,
+        samples,
+        route,
+    )
 }
 
 #[unsafe(no_mangle)]
@@ -62,5 +70,7 @@ pub extern "C" fn rindmosaic_prm<'a>(
 ) -> Report
     ensures { Called (prm_call setup.now kinds.now numbers.now keep_outs added samples.now queries route.old) kinds.now numbers.now keep_outs result route.new }
 {
-    host::rindmosaic_prm(setup, kinds, numbers, keep_outs, added, samples, queries, route)
+    host::rindmosaic_prm(
+        setup, kinds, numbers, keep_outs, added, samples, queries, route,
+    )
 }
