@@ -1,4 +1,5 @@
 use mathlib.Core.Path.{refl}
+use native.Mathlib.Omega.{arith}
 use Rattle.turn.specs.Turn.{columns_at}
 use Rattle.turn.specs.Trees.{trees_at}
 use Rattle.round.proofs.Rounding.{round_planted, round_start, round_goal}
@@ -16,7 +17,7 @@ unfolding trees_at
 returns-then-n-m c =
     round_start _ _ _ (columns_at c.args.az.now c.args.el.now c.args.feed.now c.args.parent.now)
     (columns_at c.args.goal_az.now c.args.goal_el.now c.args.goal_feed.now c.args.goal_parent.now) c.requires.n_nonzero.1 c.requires.m_bound.0 _
-    c.if-m-eq0.false c.if-n-m.true c.turn-t.result _ _ c.turn-t.ensures
+    c.if-m-eq0.false (omega arith) c.turn-t.result _ _ c.turn-t.ensures
 
 pub returns : goal.returns
 unfolding trees_at
