@@ -7,7 +7,7 @@ use Rattle.fields.specs.declared.LimitsMade.{LimitsMade}
 use Rattle.fields.specs.declared.LimitsMade.TheVariants as limits
 use Rattle.fields.specs.declared.Length.{Length}
 use Rattle.fields.specs.declared.LengthMade.{LengthMade}
-use Rattle.fields.specs.declared.LengthMade.TheVariants as length
+use Rattle.fields.specs.declared.LengthMade.TheVariants as length_made
 use Rattle.fields.specs.declared.Goal.{Goal}
 use Rattle.fields.specs.declared.GoalMade.{GoalMade}
 use Rattle.fields.specs.declared.GoalMade.TheVariants as goal
@@ -20,7 +20,7 @@ limits_of low high =
 unfoldable pub length_of : Float → LengthMade
 length_of value =
     let l : Length = record { value = value } in
-    cond (good_length l) (length.Good l) length.Bad
+    cond (good_length l) (length_made.Good l) length_made.Bad
 
 unfoldable pub goal_of : State → Float → GoalMade
 goal_of centre radius =
