@@ -1,3 +1,4 @@
+-- `parking::ask` meets its contract: after i queries the answer and the route are those of i queries.
 use Prim.Native.Nat.{◌≤◌, ◌-◌}
 use mathlib.Core.Path.{◌≡◌}
 use lib.ListN.{length}

@@ -1,3 +1,4 @@
+-- `parking::park` meets its contract: all rows give what the rows that are left give on the planner so far.
 use mathlib.Core.Path.{◌≡◌}
 use Rattle.prm.specs.Planner.{planner_of}
 use Rattle.parking.specs.Park.{park_of}

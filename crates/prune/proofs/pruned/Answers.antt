@@ -37,7 +37,10 @@ milestones-preserved c =
     let h = c.milestones.invariant in
     let tested = c.covers.ensures in (
       h.0,
-      elim c.if-covers.branch [ then-covers w ↦ prune_gone h.1 (more (goal.at.milestones-preserved c).In-milestones) (sym tested ∙ w.if-covers.true) w.az-is w.el-is w.feed-is w.legs-is w.old-is w.at-is w.count-is | else-covers w ↦ prune_kept h.1 (more (goal.at.milestones-preserved c).In-milestones) (sym tested ∙ w.if-covers.false) (rw w.legs-is w.keep_legs.ensures) w.az-is w.el-is w.feed-is w.old-is w.at-is w.count-is ],
+      elim c.if-covers.branch [
+        | then-covers w ↦ prune_gone h.1 (more (goal.at.milestones-preserved c).In-milestones) (sym tested ∙ w.if-covers.true) w.az-is w.el-is w.feed-is w.legs-is w.old-is w.at-is w.count-is
+        | else-covers w ↦ prune_kept h.1 (more (goal.at.milestones-preserved c).In-milestones) (sym tested ∙ w.if-covers.false) (rw w.legs-is w.keep_legs.ensures) w.az-is w.el-is w.feed-is w.old-is w.at-is w.count-is
+      ],
     )
 
 pub returns : goal.returns
