@@ -1,4 +1,5 @@
--- The bits that the definitions write for document 01's decimals: one table, and one statement that each is the nearest float, by computation.
+-- The bits that the definitions write for document 01's decimals: one table. The one statement on it, that each is the nearest float, is in
+-- proofs/Constants.antt.
 use Rattle.std.specs.Prelude.{Bool, true, ◌&&◌, List, [], ◌∷◌, Float}
 use Rattle.state.specs.Ranges as state
 use Rattle.fields.specs.Ranges as fields

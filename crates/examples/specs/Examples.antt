@@ -1,4 +1,4 @@
--- Document 01, "Examples on both sides": one table, and one statement that every row of it holds, by computation.
+-- Document 01, "Examples on both sides": one table. The one statement on it, that every row holds, is in proofs/Examples.antt.
 -- A new kind of example is a constructor of `Case` and a line of `holds`; a new example is a row.
 use Rattle.std.specs.Prelude.{ℕ, ◌^◌, ◌*◌, ◌-◌, Bool, true, false, ◌&&◌, List, [], ◌∷◌, ◌++◌, map, eqb, length, replicate, Float}
 use Rattle.std.specs.Bool.{beq}
