@@ -1,5 +1,6 @@
 -- Document 01, "The mount", Keep-outs: which states one covers.
-use Rattle.std.specs.Prelude.{Bool, false, ◌||◌, List, [], ◌∷◌, Float}
+use Rattle.std.specs.Prelude.{Bool, List, Float}
+use Rattle.std.specs.List.{list_any}
 use Rattle.std.specs.Float.{binary64}
 use Rattle.std.specs.Float.Ieee.{add, sub, mul, lt, le}
 use Rattle.state.specs.Ranges.{within_of}
@@ -19,5 +20,4 @@ covers_of (Floor el) s = lt s.el el
 
 -- one of the keep-outs covers the state
 unfoldable pub covered_of : List KeepOut → State → Bool
-covered_of [] s = false
-covered_of (k ∷ ks) s = covers_of k s || covered_of ks s
+covered_of ks s = list_any (λ k. covers_of k s) ks

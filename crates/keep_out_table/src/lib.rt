@@ -1,8 +1,10 @@
 // The table of at most 32 keep-outs (document 01, "The mount").
 #![tactic(auto)]
 
-ghost use Rattle.std.specs.Prelude.{◌≡◌, min};
-ghost use Rattle.keep_out.specs.Covers.{covered_of};
+ghost use Rattle.std.specs.Prelude.{◌≡◌, map, take, min};
+ghost use Rattle.std.specs.List.{list_all, list_any};
+ghost use Rattle.keep_out.specs.Good.{good_keep_out};
+ghost use Rattle.keep_out.specs.Covers.{covers_of, covered_of};
 ghost use Rattle.keep_out_table.specs.Table.{keep_outs_of, empty_table, with_of};
 ghost use Rattle.keep_out_table.specs.Good.{good_table};
 
@@ -22,25 +24,8 @@ pub struct KeepOuts {
     pub count: usize,
 }
 
-// A table with one keep-out more, or the table as it was where it had no room.
-#[derive(Clone, Copy)]
-pub struct Longer {
-    pub room: bool,
-    pub table: KeepOuts,
-}
-
 impl KeepOuts {
     pub const MOST: usize = 32;
-
-    // How many of so many rows a table has; past its end there is none.
-    pub fn rows_of(count: usize) -> usize
-        ensures { result ≡ min count 32 }
-    {
-        if count < KeepOuts::MOST {
-            return count;
-        }
-        KeepOuts::MOST
-    }
 
     pub fn new() -> KeepOuts
         ensures { result ≡ empty_table }
@@ -54,55 +39,51 @@ impl KeepOuts {
         }
     }
 
-    pub fn with(self, k: KeepOut) -> Longer
+    // The places that hold keep-outs.
+    pub fn held(&self) -> &[Slot]
+        ensures { result.now ≡ take self.now.count self.now.slots }
+    {
+        let count = self.count.min(KeepOuts::MOST);
+        &self.slots[..count]
+    }
+
+    // A table with one keep-out more, if it has room for it.
+    pub fn with(self, k: KeepOut) -> Option<KeepOuts>
         ensures { result ≡ with_of self k }
     {
         let n = self.count;
-        let mut table = self;
-        if n < KeepOuts::MOST {
-            table.slots[n] = Slot { held: k };
-            table.count = n + 1;
-            return Longer { room: true, table };
+        if KeepOuts::MOST <= n {
+            return None;
         }
-        Longer { room: false, table }
+        let mut table = self;
+        table.slots[n] = Slot { held: k };
+        table.count = n + 1;
+        Some(table)
     }
 
     // At most 32, each with good numbers.
-    pub fn is_good(self) -> bool
-        ensures { result ≡ good_table self }
+    pub fn is_good(&self) -> bool
+        ensures { result ≡ good_table self.now }
     {
-        let n = self.count;
-        if KeepOuts::MOST < n {
-            return false;
-        }
-        let mut i: usize = 0;
-        'slots: while i < n {
-            let slot = self.slots[i];
-            let k = slot.held;
-            if k.is_good() {
-                i += 1;
-            } else {
-                return false;
-            }
-        }
-        true
+        self.count <= KeepOuts::MOST && all_good(self.held())
     }
 
     // Whether one of them covers the state.
-    pub fn covers(self, s: State) -> bool
-        ensures { result ≡ covered_of (keep_outs_of self) s }
+    pub fn covers(&self, s: State) -> bool
+        ensures { result ≡ covered_of (keep_outs_of self.now) s }
     {
-        let count = self.count;
-        let n = KeepOuts::rows_of(count);
-        let mut i: usize = 0;
-        'slots: while i < n {
-            let slot = self.slots[i];
-            let k = slot.held;
-            if k.covers(s) {
-                return true;
-            }
-            i += 1;
-        }
-        false
+        any_covers(self.held(), s)
     }
+}
+
+fn all_good(slots: &[Slot]) -> bool
+    ensures { result ≡ list_all (λ slot. good_keep_out slot.held) slots.now }
+{
+    slots.iter().all(|slot| slot.held.is_good())
+}
+
+fn any_covers(slots: &[Slot], s: State) -> bool
+    ensures { result ≡ list_any (λ slot. covers_of slot.held s) slots.now }
+{
+    slots.iter().any(|slot| slot.held.covers(s))
 }
