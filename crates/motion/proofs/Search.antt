@@ -9,7 +9,7 @@ use lib.IntN.{pos}
 use lib.Ieee.{Float, binary64, mul, div, le, of_int, of_bits, in_float}
 use Rattle.state.specs.Distance.{distance_of}
 use Rattle.state.specs.declared.State.{State}
-use Rattle.motion.specs.declared.Steps.TheVariants.{Count, Many}
+use Rattle.std.specs.Prelude.{Some, None}
 use Rattle.motion.specs.Points.{part, whole_of, most_points, quotient_of, search_of, least_of, steps_of}
 
 -- a whole number of at most 4,096 is a float
@@ -52,11 +52,11 @@ search_most (suc fuel) n q = pick (le q (whole_of n)) (search_most fuel (n + 1) 
     pick false h = omega arith
 
 -- n is at most 4,096
-pub steps_few : (segment : Float) (from to : State) (n : ℕ) → Count n ≡ steps_of segment from to → n ≤ 4096
+pub steps_few : (segment : Float) (from to : State) (n : ℕ) → Some n ≡ steps_of segment from to → n ≤ 4096
 unfolding steps_of least_of
 steps_few segment from to n e = pick (le (quotient_of segment from to) most_points) e
   where
-    pick : (b : Bool) → Count n ≡ cond b (Count (search_of 4096 0 (quotient_of segment from to))) Many → n ≤ 4096
+    pick : (b : Bool) → Some n ≡ cond b (Some (search_of 4096 0 (quotient_of segment from to))) None → n ≤ 4096
     pick true e = let z : n ≡ search_of 4096 0 (quotient_of segment from to) = cc in omega (arith, search_most 4096 0 (quotient_of segment from to))
     pick false e = let z : ◌≡◌ {A = ℕ} 0 1 = cc in omega arith
 
@@ -69,10 +69,10 @@ module _ (segment : Float) (from to : State) (d : Float) (is : d ≡ distance_of
   unfolding quotient_of
   q_is = rw is
 
-  pub steps_count : (n : ℕ) → le q most_points ≡ true → n ≡ least_of q → Count n ≡ steps_of segment from to
+  pub steps_count : (n : ℕ) → le q most_points ≡ true → n ≡ least_of q → Some n ≡ steps_of segment from to
   unfolding steps_of
   steps_count n e h = rw (← q_is, e, h)
 
-  pub steps_many : le q most_points ≡ false → Many ≡ steps_of segment from to
+  pub steps_many : le q most_points ≡ false → None ≡ steps_of segment from to
   unfolding steps_of
   steps_many e = rw (← q_is, e)

@@ -14,7 +14,7 @@ use Rattle.state.specs.declared.State.{State}
 use Rattle.fields.specs.declared.Limits.{Limits}
 use Rattle.keep_out.specs.Covers.{covered_of}
 use Rattle.keep_out.specs.declared.KeepOut.{KeepOut}
-use Rattle.motion.specs.declared.Steps.TheVariants.{Count, Many}
+use Rattle.std.specs.Prelude.{Some, None}
 use Rattle.motion.specs.Valid.{valid_of}
 use Rattle.motion.specs.Points.{part_way, part_ways, tested_of, point_at, steps_of, checked_at, checked_of}
 use Rattle.motion.specs.Accepts.{all_valid, accepted_of, accepts_of}
@@ -74,10 +74,10 @@ module _ (limits : Limits) (ks : List KeepOut) (from to : State) (n last : ℕ) 
 
 -- The two cases of the motion check.
 module _ (limits : Limits) (segment : Float) (ks : List KeepOut) (from to : State) where
-  pub accepts_many : Many ≡ steps_of segment from to → false ≡ accepts_of limits segment ks from to
+  pub accepts_many : None ≡ steps_of segment from to → false ≡ accepts_of limits segment ks from to
   unfolding accepts_of checked_of checked_at accepted_of
   accepts_many e = rw (← e)
 
-  pub accepts_count : (n : ℕ) → Count n ≡ steps_of segment from to → all_valid limits ks (tested_of from to n) ≡ accepts_of limits segment ks from to
+  pub accepts_count : (n : ℕ) → Some n ≡ steps_of segment from to → all_valid limits ks (tested_of from to n) ≡ accepts_of limits segment ks from to
   unfolding accepts_of checked_of checked_at accepted_of
   accepts_count n e = rw (← e)

@@ -1,12 +1,10 @@
 -- Document 01, "Motion check": q, n, and the points that are tested, in order.
-use Rattle.std.specs.Prelude.{ℕ, zero, suc, ◌+◌, ◌≤◌, cond, List, [], ◌∷◌, ◌≡◌, leb, pos, Float}
+use Rattle.std.specs.Prelude.{ℕ, zero, suc, ◌+◌, ◌≤◌, cond, Option, Some, None, List, [], ◌∷◌, ◌≡◌, leb, pos, Float}
 use Rattle.std.specs.Float.{binary64}
 use Rattle.std.specs.Float.Ieee.{mul, div, le, of_int, of_bits}
 use Rattle.state.specs.Distance.{distance_of}
 use Rattle.state.specs.Steering.{interpolate_of}
 use Rattle.state.specs.declared.State.{State}
-use Rattle.motion.specs.declared.Steps.{Steps}
-use Rattle.motion.specs.declared.Steps.TheVariants.{Count, Many}
 
 -- 0.1, the part of a segment that one step takes, and 4,096, the most points
 abbrev pub part : Float
@@ -39,10 +37,10 @@ pub record Least (q : Float) (n : ℕ) : Type 0 where
   pub small : n ≤ 4096
 
 -- if q isn't at most 4,096 there are too many; otherwise n
-unfoldable pub steps_of : Float → State → State → Steps
+unfoldable pub steps_of : Float → State → State → Option ℕ
 steps_of segment from to =
     let q = quotient_of segment from to in
-    cond (le q most_points) (Count (least_of q)) Many
+    cond (le q most_points) (Some (least_of q)) None
 
 -- the point at t = i/n
 unfoldable pub part_way : State → State → ℕ → ℕ → State
@@ -66,9 +64,9 @@ pub data Checked : Type 0 where
   too_many : Checked
   points : List State → Checked
 
-unfoldable pub checked_at : State → State → Steps → Checked
-checked_at from to Many = too_many
-checked_at from to (Count n) = points (tested_of from to n)
+unfoldable pub checked_at : State → State → Option ℕ → Checked
+checked_at from to None = too_many
+checked_at from to (Some n) = points (tested_of from to n)
 
 unfoldable pub checked_of : Float → State → State → Checked
 checked_of segment from to = checked_at from to (steps_of segment from to)

@@ -1,9 +1,9 @@
-// The motion check (document 01, "Motion check"), over keep-outs that are lent as columns.
+// The motion check (document 01, "Motion check").
 #![tactic(auto)]
 
 ghost use Rattle.std.specs.Prelude.{true, ◌≡◌, ◌≤◌};
 ghost use Rattle.std.specs.Float.Ieee.{le};
-ghost use Rattle.columns.specs.Columns.{columns_of};
+ghost use Rattle.keep_out_table.specs.Table.{keep_outs_of};
 ghost use Rattle.motion.specs.Points.{most_points, Least, steps_of, point_at};
 ghost use Rattle.motion.specs.Accepts.{accepts_of};
 
@@ -11,21 +11,11 @@ use fields::Limits;
 use keep_out_table::KeepOuts;
 use state::State;
 
-// How many points a motion check tests.
-#[derive(Clone, Copy)]
-pub enum Steps {
-    Count(usize),
-    // More than 4,096: the motion is not accepted.
-    Many,
-}
+// The part of a segment that one step takes.
+pub const PART: f64 = 0.1;
 
-impl Steps {
-    // The part of a segment that one step takes.
-    pub const PART: f64 = 0.1;
-
-    // The most points of a motion that is looked at.
-    pub const MOST_POINTS: f64 = 4096.0;
-}
+// The most points of a motion that is looked at.
+pub const MOST_POINTS: f64 = 4096.0;
 
 // The least whole number that is not below q. A u32 becomes a float in one instruction, where a usize takes six.
 fn least(q: f64) -> usize
@@ -42,15 +32,15 @@ fn least(q: f64) -> usize
     found as usize
 }
 
-// The n of the motion check.
-pub fn num_steps(segment: f64, from: State, to: State) -> Steps
+// The n of the motion check; none where it is more than 4,096, and the motion is not accepted.
+pub fn num_steps(segment: f64, from: State, to: State) -> Option<usize>
     ensures { result ≡ steps_of segment from to }
 {
-    let q = from.distance(to) / (segment * Steps::PART);
-    if q <= Steps::MOST_POINTS {
-        return Steps::Count(least(q));
+    let q = from.distance(to) / (segment * PART);
+    if q <= MOST_POINTS {
+        return Some(least(q));
     }
-    Steps::Many
+    None
 }
 
 // The i-th of the points that a motion of n steps tests.
@@ -65,40 +55,25 @@ fn point(from: State, to: State, n: usize, i: usize) -> State
     }
 }
 
-// Whether the motion from from to to is accepted, over keep-outs that are lent as columns. The walk is left at the first point that
-// is not valid.
-pub fn accepts<'a>(
-    limits: Limits,
-    segment: f64,
-    kinds: &'a [u8; 32],
-    numbers: &'a [f64; 192],
-    count: usize,
-    from: State,
-    to: State,
-) -> bool
-    ensures { result ≡ accepts_of limits segment (columns_of kinds.now numbers.now count) from to }
+// Whether the motion from from to to is accepted. The walk is left at the first point that is not valid.
+pub fn accepts(limits: Limits, segment: f64, table: &KeepOuts, from: State, to: State) -> bool
+    ensures { result ≡ accepts_of limits segment (keep_outs_of table.now) from to }
 {
-    let Steps::Count(n) = num_steps(segment, from, to) else {
+    let Some(n) = num_steps(segment, from, to) else {
         return false;
     };
-    let rows = KeepOuts::rows_of(count);
-    let last = if n < 1 { 1 } else { n };
-    let mut i: usize = 1;
-    'points: while i <= last {
+    let slots = table.held();
+    let last = n.max(1);
+    'points: for i in 1..=last {
         let s = point(from, to, n, i);
-        if s.within(limits.low, limits.high) {
-            let mut j: usize = 0;
-            'keep_outs: while j < rows {
-                let k = columns::keep_out_at(kinds, numbers, j);
-                if k.covers(s) {
-                    return false;
-                }
-                j += 1;
-            }
-        } else {
+        if !s.within(limits.low, limits.high) {
             return false;
         }
-        i += 1;
+        'keep_outs: for slot in slots {
+            if slot.held.covers(s) {
+                return false;
+            }
+        }
     }
     true
 }

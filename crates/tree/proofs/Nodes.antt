@@ -1,42 +1,69 @@
--- A node read from the columns.
-use Prim.Native.Nat.{ℕ, ◌≤◌, ◌<◌, min}
+-- How many nodes a table holds, and what stands at a number.
+use Prim.Native.Nat.{ℕ, ◌≤◌, ◌<◌}
 use mathlib.Core.List.{List}
-use mathlib.Core.Path.{◌≡◌, sym, ◌∙◌}
+use mathlib.Core.Path.{◌≡◌, refl, ◌∙◌}
 use native.Mathlib.Omega.{arith}
 use borrow.Author.Tests.{lt-ltb, le-ltb}
-use lib.ListN.{length, get_or}
+use lib.ListN.{length, get_or, take}
 use lib.Seq.{get_or-take}
-use lib.Ieee.{Float}
-use Rattle.tree.specs.declared.NodeAt.TheVariants.{Root, Child, Nothing}
-use Rattle.state.specs.Rows.{row_at}
-use Rattle.tree.specs.Table.{Nodes, nodes_in, state_at, parent_at, node_at_of}
-use Rattle.tree.proofs.Append.{states_most, state_most}
+use Rattle.std.proofs.lemmas.List.{length-map, get_or-map, length-take-le}
+use Rattle.std.specs.Prelude.{Some, None}
+use Rattle.state.specs.Rows.{state_at}
+use Rattle.tree.specs.declared.Node.{Node}
+use Rattle.tree.specs.declared.NodeAt.TheVariants.{Root, Child}
+use Rattle.tree.specs.declared.Tree.{Tree}
+use Rattle.tree.specs.Table.{state_in, parent_in, nodes_in, nodes_of, states_of, parent_at, node_at_of}
 
-module _ (az el feed : List Float) (parent : List ℕ) (n i count : ℕ) (is : count ≡ min n 512) where
-  abbrev nodes : Nodes
-  nodes = nodes_in n az el feed parent
-
-  many : length nodes.states ≡ count
+-- a list of nodes
+module _ (l : List Node) where
+  many : length (nodes_in l).states ≡ length l
   unfolding nodes_in
-  many = states_most az el feed n ∙ sym is
+  many = length-map l state_in
 
-  pub at_none : count ≤ i → Nothing ≡ node_at_of nodes i
+  pub node_none : (i : ℕ) → length l ≤ i → None ≡ node_at_of (nodes_in l) i
   unfolding node_at_of
-  at_none h = rw (many, le-ltb i count h)
+  node_none i h = rw (many, le-ltb i (length l) h)
 
-  module _ (h : i < count) where
-    state : state_at nodes.states i ≡ row_at az el feed i
+  module _ (i : ℕ) (d : Node) (h : i < length l) where
+    state : state_at (nodes_in l).states i ≡ (get_or l i d).state
     unfolding nodes_in
-    state = state_most az el feed n i (omega arith)
+    state = get_or-map state_in l i d _ h
 
-    up : parent_at nodes i ≡ get_or parent i 0
+    parent : parent_at (nodes_in l) i ≡ (get_or l i d).parent
     unfolding nodes_in
-    up = get_or-take n parent i 0 (omega arith)
+    parent = get_or-map parent_in l i d 0 h
 
-    pub at_child : get_or parent i 0 < count → Child (row_at az el feed i) (get_or parent i 0) ≡ node_at_of nodes i
+    pub node_child : (get_or l i d).parent < length l → Some (Child (get_or l i d).state (get_or l i d).parent) ≡ node_at_of (nodes_in l) i
     unfolding node_at_of
-    at_child l = rw (many, lt-ltb i count h, up, lt-ltb (get_or parent i 0) count l, state)
+    node_child p = rw (many, lt-ltb i (length l) h, parent, lt-ltb (get_or l i d).parent (length l) p, state)
 
-    pub at_root : count ≤ get_or parent i 0 → Root (row_at az el feed i) ≡ node_at_of nodes i
+    pub node_root : length l ≤ (get_or l i d).parent → Some (Root (get_or l i d).state) ≡ node_at_of (nodes_in l) i
     unfolding node_at_of
-    at_root l = rw (many, lt-ltb i count h, up, le-ltb (get_or parent i 0) count l, state)
+    node_root p = rw (many, lt-ltb i (length l) h, parent, le-ltb (get_or l i d).parent (length l) p, state)
+
+-- a table whose count it has places for
+module _ (t : Tree) (room : t.count ≤ length t.nodes) where
+  pub states_length : length (states_of t) ≡ t.count
+  unfolding states_of
+  states_length = length-map (take t.count t.nodes) state_in ∙ length-take-le t.count t.nodes room
+
+  pub nodes_length : length (nodes_of t).states ≡ t.count
+  unfolding nodes_of nodes_in
+  nodes_length = length-map (take t.count t.nodes) state_in ∙ length-take-le t.count t.nodes room
+
+  module _ (k : ℕ) (d : Node) (h : k < t.count) where
+    here : k < length (take t.count t.nodes)
+    here = omega (arith, length-take-le t.count t.nodes room)
+
+    pub state_is : state_at (states_of t) k ≡ (get_or t.nodes k d).state
+    unfolding states_of
+    state_is = get_or-map state_in (take t.count t.nodes) k d _ here ∙ rw (get_or-take t.count t.nodes k d h)
+
+    pub parent_is : parent_at (nodes_of t) k ≡ (get_or t.nodes k d).parent
+    unfolding nodes_of nodes_in
+    parent_is = get_or-map parent_in (take t.count t.nodes) k d _ here ∙ rw (get_or-take t.count t.nodes k d h)
+
+-- the states of a tree's nodes
+pub states_are : (t : Tree) → (nodes_of t).states ≡ states_of t
+unfolding nodes_of nodes_in states_of
+states_are t = refl

@@ -1,28 +1,30 @@
-// A tree of states in columns, read by index. The columns are lent to what only reads them; a planner appends in place, in the local that
-// holds the tree.
+// A tree of states in a table, read by index. A planner lends its tree to what only reads it, and appends in place.
 #![tactic(auto)]
 
-ghost use Rattle.std.specs.Prelude.{◌≡◌};
-ghost use Rattle.tree.specs.Table.{nodes_in, node_at_of, rooted_of, none_of};
+ghost use Rattle.std.specs.Prelude.{◌≡◌, ◌<◌, take};
+ghost use Rattle.tree.specs.Table.{nodes_of, node_at_of, rooted_of, none_of, pushed_of};
 
 use state::State;
 
-// The first count rows are the nodes.
+// A node's state and its parent's number.
+#[derive(Clone, Copy)]
+pub struct Node {
+    pub state: State,
+    pub parent: usize,
+}
+
+// The first count places hold the nodes, in the order in which they were added. A count beyond the table reads as its end.
 #[derive(Clone, Copy)]
 pub struct Tree {
-    pub az: [f64; 512],
-    pub el: [f64; 512],
-    pub feed: [f64; 512],
-    pub parent: [usize; 512],
+    pub nodes: [Node; 512],
     pub count: usize,
 }
 
-// What stands at a number: a root, a node with its parent's number, or nothing.
+// What stands at a number: a root, or a node with its parent's number.
 #[derive(Clone, Copy)]
 pub enum NodeAt {
     Root(State),
     Child(State, usize),
-    Nothing,
 }
 
 impl Tree {
@@ -32,14 +34,15 @@ impl Tree {
     pub const NO_PARENT: usize = 512;
 
     // A tree of its root alone.
-    pub fn rooted(s: State) -> Tree
-        ensures { result ≡ rooted_of s }
+    pub fn rooted(state: State) -> Tree
+        ensures { result ≡ rooted_of state }
     {
+        let root = Node {
+            state,
+            parent: Tree::NO_PARENT,
+        };
         Tree {
-            az: [s.az; 512],
-            el: [s.el; 512],
-            feed: [s.feed; 512],
-            parent: [Tree::NO_PARENT; 512],
+            nodes: [root; 512],
             count: 1,
         }
     }
@@ -48,39 +51,50 @@ impl Tree {
     pub fn none() -> Tree
         ensures { result ≡ none_of }
     {
+        let zero = State {
+            az: 0.0,
+            el: 0.0,
+            feed: 0.0,
+        };
+        let nowhere = Node {
+            state: zero,
+            parent: Tree::NO_PARENT,
+        };
         Tree {
-            az: [0.0; 512],
-            el: [0.0; 512],
-            feed: [0.0; 512],
-            parent: [Tree::NO_PARENT; 512],
+            nodes: [nowhere; 512],
             count: 0,
         }
     }
-}
 
-// The node at i of the first n, or of all where n is past the columns. A parent that is no node makes a root.
-pub fn node_at<'a>(
-    az: &'a [f64; 512],
-    el: &'a [f64; 512],
-    feed: &'a [f64; 512],
-    parent: &'a [usize; 512],
-    n: usize,
-    i: usize,
-) -> NodeAt
-    ensures { result ≡ node_at_of (nodes_in n az.now el.now feed.now parent.now) i }
-{
-    let count = if n < 512 { n } else { 512 };
-    if i < count {
-        let s = State {
-            az: az[i],
-            el: el[i],
-            feed: feed[i],
-        };
-        let p = parent[i];
-        if p < count {
-            return NodeAt::Child(s, p);
-        }
-        return NodeAt::Root(s);
+    // The places that hold nodes.
+    pub fn held(&self) -> &[Node]
+        ensures { result.now ≡ take self.now.count self.now.nodes }
+    {
+        let count = self.count.min(Tree::MOST);
+        &self.nodes[..count]
     }
-    NodeAt::Nothing
+
+    // One node more, in the next place.
+    pub fn push(&mut self, state: State, parent: usize)
+        requires { self.old.count < 512 }
+        ensures { self.new ≡ pushed_of self.old state parent }
+    {
+        self.nodes[self.count] = Node { state, parent };
+        self.count += 1;
+    }
+
+    // The node at i. A parent that is no node makes a root.
+    pub fn node_at(&self, i: usize) -> Option<NodeAt>
+        ensures { result ≡ node_at_of (nodes_of self.now) i }
+    {
+        let nodes = self.held();
+        if nodes.len() <= i {
+            return None;
+        }
+        let node = nodes[i];
+        if node.parent < nodes.len() {
+            return Some(NodeAt::Child(node.state, node.parent));
+        }
+        Some(NodeAt::Root(node.state))
+    }
 }
