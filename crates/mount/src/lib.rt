@@ -9,10 +9,8 @@ ghost use Rattle.motion.specs.Accepts.{accepts_of};
 ghost use Rattle.mount.specs.Good.{good_mount};
 ghost use Rattle.mount.specs.None.{no_mount};
 
-use columns::Columns;
 use fields::{Length, Limits};
 use keep_out_table::KeepOuts;
-use motion::Steps;
 use state::State;
 
 #[derive(Clone, Copy)]
@@ -42,51 +40,32 @@ impl Mount {
         }
     }
 
-    pub fn is_good(self) -> bool
-        ensures { result ≡ good_mount self }
+    #[tactic(auto, unfolding(crate::specs::Good::good_mount))]
+    pub fn is_good(&self) -> bool
+        ensures { result ≡ good_mount self.now }
     {
-        if self.limits.is_good() {
-            if self.segment.is_good() {
-                return self.table.is_good();
-            }
-        }
-        false
+        self.limits.is_good() && self.segment.is_good() && self.table.is_good()
     }
 
     // Within the limits, and covered by no keep-out.
-    pub fn is_valid(self, s: State) -> bool
-        ensures { result ≡ valid_of self.limits (keep_outs_of self.table) s }
+    #[tactic(auto, unfolding(motion::specs::Valid::valid_of))]
+    pub fn is_valid(&self, s: State) -> bool
+        ensures { result ≡ valid_of self.now.limits (keep_outs_of self.now.table) s }
     {
-        let limits = self.limits;
-        if s.within(limits.low, limits.high) {
-            if self.table.covers(s) {
-                return false;
-            }
-            return true;
-        }
-        false
+        s.within(self.limits.low, self.limits.high) && !self.table.covers(s)
     }
 
-    pub fn steps(self, from: State, to: State) -> Steps
-        ensures { result ≡ steps_of self.segment.value from to }
+    // How many points a motion check tests; none where they are too many.
+    pub fn steps(&self, from: State, to: State) -> Option<usize>
+        ensures { result ≡ steps_of self.now.segment.value from to }
     {
         motion::num_steps(self.segment.value, from, to)
     }
 
     // Whether the motion from from to to is accepted.
-    pub fn check_motion(self, from: State, to: State) -> bool
-        ensures { result ≡ accepts_of self.limits self.segment.value (keep_outs_of self.table) from to }
+    pub fn check_motion(&self, from: State, to: State) -> bool
+        ensures { result ≡ accepts_of self.now.limits self.now.segment.value (keep_outs_of self.now.table) from to }
     {
-        let columns = Columns::of(self.table);
-        let count = columns.count;
-        motion::accepts(
-            self.limits,
-            self.segment.value,
-            &columns.kinds,
-            &columns.numbers,
-            count,
-            from,
-            to,
-        )
+        motion::accepts(self.limits, self.segment.value, &self.table, from, to)
     }
 }
