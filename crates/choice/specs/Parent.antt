@@ -4,11 +4,11 @@ use Rattle.std.specs.Prelude.{ℕ, Bool, ◌&&◌, cond, List, [], ◌∷◌, ge
 use Rattle.std.specs.Float.{nan, binary64}
 use Rattle.std.specs.Float.Ieee.{add, lt}
 use Rattle.state.specs.Distance.{distance_of}
+use Rattle.state.specs.Rows.{state_at}
 use Rattle.state.specs.declared.State.{State}
 use Rattle.fields.specs.declared.Limits.{Limits}
 use Rattle.keep_out.specs.declared.KeepOut.{KeepOut}
 use Rattle.motion.specs.Accepts.{accepts_of}
-use Rattle.tree.specs.Table.{state_at}
 use Rattle.choice.specs.declared.Choice.{Choice}
 
 -- the cost of a node, read from the list of costs

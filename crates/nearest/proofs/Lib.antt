@@ -1,5 +1,3 @@
 -- The crate's laws that belong to no one function.
+pub mod Turns
 pub mod Below
-pub mod Lesser
-pub mod Nearer
-pub mod Blocks

@@ -6,7 +6,8 @@ use native.Mathlib.Omega.{arith}
 use lib.ListN.{length, take, drop, take-append-drop}
 use lib.Ieee.{Float}
 use Rattle.state.specs.declared.State.{State}
-use Rattle.tree.specs.Table.{Nodes, state_at, parent_at}
+use Rattle.state.specs.Rows.{state_at}
+use Rattle.tree.specs.Table.{Nodes, parent_at}
 use Rattle.route.specs.Path.{climb_of, path_of}
 use Rattle.route.specs.Written.{flat_of, put_of, written_of}
 use Rattle.route.proofs.Climb.{Up, goes_up, ends_here}

@@ -8,7 +8,8 @@ use lib.Dec.{ltb}
 use lib.ListN.{length}
 use Rattle.laws.specs.Order.{whether}
 use Rattle.state.specs.declared.State.{State}
-use Rattle.tree.specs.Table.{Nodes, state_at, parent_at}
+use Rattle.state.specs.Rows.{state_at}
+use Rattle.tree.specs.Table.{Nodes, parent_at}
 use Rattle.route.specs.Path.{climb_of, path_of}
 
 module _ (nodes : Nodes) (k : ℕ) (after : List State) where

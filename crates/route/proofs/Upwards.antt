@@ -8,7 +8,8 @@ use lib.ListN.{length, take, drop, length-append}
 use lib.Seq.{take_at, drop-append-add, length-take-le, drop-drop}
 use lib.Ieee.{Float}
 use Rattle.state.specs.declared.State.{State}
-use Rattle.tree.specs.Table.{Nodes, state_at, parent_at}
+use Rattle.state.specs.Rows.{state_at}
+use Rattle.tree.specs.Table.{Nodes, parent_at}
 use Rattle.route.specs.Path.{ancestors_of, upwards_of}
 use Rattle.route.specs.Written.{flat_of, put_of, written_of}
 

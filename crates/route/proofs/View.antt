@@ -5,8 +5,8 @@ use mathlib.Core.Path.{◌≡◌}
 use lib.ListN.{length, get_or}
 use lib.Seq.{get_or-take}
 use lib.Ieee.{Float}
-use Rattle.state.specs.Rows.{row_at}
-use Rattle.tree.specs.Table.{nodes_in, state_at, parent_at}
+use Rattle.state.specs.Rows.{row_at, state_at}
+use Rattle.tree.specs.Table.{nodes_in, parent_at}
 use Rattle.tree.proofs.Append.{states_length, state_is}
 
 module _ (az el feed : List Float) (parent : List ℕ) (n : ℕ) (room : n ≤ 512) where

@@ -1,7 +1,8 @@
 -- The route from the root to a node, over a tree's nodes (document 01, RRT: "the route from root to it is the answer").
 use Rattle.std.specs.Prelude.{ℕ, zero, suc, ◌-◌, ◌≤◌, ◌<◌, cond, List, [], ◌∷◌, ◌≡◌, ltb, length}
 use Rattle.state.specs.declared.State.{State}
-use Rattle.tree.specs.Table.{Nodes, state_at, parent_at}
+use Rattle.state.specs.Rows.{state_at}
+use Rattle.tree.specs.Table.{Nodes, parent_at}
 
 -- the states from the root to the node k, before those of `after`; at most fuel steps up
 unfoldable pub climb_of : ℕ → Nodes → ℕ → List State → List State

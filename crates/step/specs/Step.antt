@@ -3,13 +3,13 @@
 use Rattle.std.specs.Prelude.{not, List, Float}
 use Rattle.std.specs.Float.Ieee.{lt}
 use Rattle.state.specs.Steering.{steer_by_of}
+use Rattle.state.specs.Rows.{state_at}
 use Rattle.state.specs.declared.State.{State}
 use Rattle.fields.specs.declared.Limits.{Limits}
 use Rattle.keep_out.specs.declared.KeepOut.{KeepOut}
 use Rattle.motion.specs.Accepts.{accepts_of}
 use Rattle.nearest.specs.declared.Near.{Near}
 use Rattle.step.specs.declared.Stepped.{Stepped}
-use Rattle.tree.specs.Table.{state_at}
 use Rattle.nearest.specs.Nearest.{nearest_of}
 
 -- from the nearest node, at its distance

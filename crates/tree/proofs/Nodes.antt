@@ -4,7 +4,7 @@ use mathlib.Core.List.{List}
 use mathlib.Core.Path.{◌≡◌, refl, ◌∙◌}
 use native.Mathlib.Omega.{arith}
 use borrow.Author.Tests.{lt-ltb, le-ltb}
-use lib.ListN.{length, get_or, take}
+use lib.ListN.{length, get_or, take, length-take}
 use lib.Seq.{get_or-take}
 use Rattle.std.proofs.lemmas.List.{length-map, get_or-map, length-take-le}
 use Rattle.std.specs.Prelude.{Some, None}
@@ -40,6 +40,11 @@ module _ (l : List Node) where
     pub node_root : length l ≤ (get_or l i d).parent → Some (Root (get_or l i d).state) ≡ node_at_of (nodes_in l) i
     unfolding node_at_of
     node_root p = rw (many, lt-ltb i (length l) h, parent, le-ltb (get_or l i d).parent (length l) p, state)
+
+-- never more states than the count says
+pub states_few : (t : Tree) → length (states_of t) ≤ t.count
+unfolding states_of
+states_few t = let e = length-map (take t.count t.nodes) state_in in omega (arith, length-take t.count t.nodes)
 
 -- a table whose count it has places for
 module _ (t : Tree) (room : t.count ≤ length t.nodes) where

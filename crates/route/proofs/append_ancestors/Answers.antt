@@ -4,7 +4,8 @@ use mathlib.Core.Path.{◌≡◌, refl, sym, ◌∙◌, ap}
 use native.Mathlib.Omega.{arith}
 use lib.ListN.{length, get_or, take, drop, length-append, take-append-drop}
 use Rattle.state.specs.declared.State.{State}
-use Rattle.tree.specs.Table.{Nodes, nodes_in, state_at, parent_at}
+use Rattle.state.specs.Rows.{state_at}
+use Rattle.tree.specs.Table.{Nodes, nodes_in, parent_at}
 use Rattle.route.specs.Written.{flat_of, put_of}
 use Rattle.route.proofs.Upwards.{placed_behind, up_starts, up_one, up_ends, up_out}
 use Rattle.route.proofs.View.{nodes_many, state_in, parent_in}

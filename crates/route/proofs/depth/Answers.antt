@@ -3,7 +3,8 @@ use mathlib.Core.List.{[], ◌∷◌}
 use mathlib.Core.Path.{◌≡◌, sym, ◌∙◌, ap}
 use native.Mathlib.Omega.{arith}
 use lib.ListN.{length, get_or}
-use Rattle.tree.specs.Table.{Nodes, nodes_in, state_at, parent_at}
+use Rattle.state.specs.Rows.{state_at}
+use Rattle.tree.specs.Table.{Nodes, nodes_in, parent_at}
 use Rattle.route.specs.Path.{climb_of, path_of}
 use Rattle.route.proofs.Climb.{climb_out, climb_top, path_starts, one_up}
 use Rattle.route.proofs.View.{nodes_many, parent_in}
