@@ -1,11 +1,9 @@
--- What the constructor answers: the state where its numbers are good, and else `Bad`.
-use Rattle.std.specs.Prelude.{cond, Float}
+-- What the constructor answers: the state where its numbers are good.
+use Rattle.std.specs.Prelude.{Option, Some, None, cond, Float}
 use Rattle.state.specs.Ranges.{good_state}
 use Rattle.state.specs.declared.State.{State}
-use Rattle.state.specs.declared.StateMade.{StateMade}
-use Rattle.state.specs.declared.StateMade.TheVariants.{Good, Bad}
 
-unfoldable pub state_of : Float → Float → Float → StateMade
+unfoldable pub state_of : Float → Float → Float → Option State
 state_of az el feed =
     let s : State = record { az = az; el = el; feed = feed } in
-    cond (good_state s) (Good s) Bad
+    cond (good_state s) (Some s) None

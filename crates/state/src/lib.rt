@@ -18,17 +18,12 @@ pub struct State {
     pub feed: f64,
 }
 
-#[derive(Clone, Copy)]
-pub enum StateMade {
-    Good(State),
-    Bad,
-}
-
 // From low to high, ends included.
+#[tactic(auto, unfolding(crate::specs::Ranges::inside_of))]
 pub fn inside(low: f64, high: f64, x: f64) -> bool
     ensures { result ≡ inside_of low high x }
 {
-    if low <= x { x <= high } else { false }
+    low <= x && x <= high
 }
 
 // The running number m, or the size of a - b if that is strictly larger. Taken by its bits a size costs no branch; the test for a
@@ -54,71 +49,59 @@ impl State {
 
     pub const HIGHEST: f64 = 1024.0;
 
-    pub fn new(az: f64, el: f64, feed: f64) -> StateMade
+    #[tactic(auto, unfolding(crate::specs::Made::state_of))]
+    pub fn new(az: f64, el: f64, feed: f64) -> Option<State>
         ensures { result ≡ state_of az el feed }
     {
         let s = State { az, el, feed };
-        if s.is_good() {
-            return StateMade::Good(s);
-        }
-        StateMade::Bad
+        s.is_good().then_some(s)
     }
 
     // A coordinate is finite and in its range; -0.0 is taken.
+    #[tactic(auto, unfolding(crate::specs::Ranges::coordinate_of))]
     pub fn is_coordinate(x: f64) -> bool
         ensures { result ≡ coordinate_of x }
     {
         inside(State::LOWEST, State::HIGHEST, x)
     }
 
+    #[tactic(auto, unfolding(crate::specs::Ranges::good_state))]
     pub fn is_good(self) -> bool
         ensures { result ≡ good_state self }
     {
-        if State::is_coordinate(self.az) {
-            if State::is_coordinate(self.el) {
-                return State::is_coordinate(self.feed);
-            }
-        }
-        false
+        State::is_coordinate(self.az)
+            && State::is_coordinate(self.el)
+            && State::is_coordinate(self.feed)
     }
 
     // Each axis from low to high, ends included.
+    #[tactic(auto, unfolding(crate::specs::Ranges::within_of))]
     pub fn within(self, low: State, high: State) -> bool
         ensures { result ≡ within_of low high self }
     {
-        if inside(low.az, high.az, self.az) {
-            if inside(low.el, high.el, self.el) {
-                return inside(low.feed, high.feed, self.feed);
-            }
-        }
-        false
+        inside(low.az, high.az, self.az)
+            && inside(low.el, high.el, self.el)
+            && inside(low.feed, high.feed, self.feed)
     }
 
     // At most high on each axis.
+    #[tactic(auto, unfolding(crate::specs::Ranges::at_most_of))]
     fn at_most(self, high: State) -> bool
         ensures { result ≡ at_most_of self high }
     {
-        if self.az <= high.az {
-            if self.el <= high.el {
-                return self.feed <= high.feed;
-            }
-        }
-        false
+        self.az <= high.az && self.el <= high.el && self.feed <= high.feed
     }
 
     // Two good states, low at most high: what limits and a box are.
+    #[tactic(auto, unfolding(crate::specs::Ranges::good_span))]
     pub fn spans(self, high: State) -> bool
         ensures { result ≡ good_span self high }
     {
-        if self.is_good() {
-            if high.is_good() {
-                return self.at_most(high);
-            }
-        }
-        false
+        self.is_good() && high.is_good() && self.at_most(high)
     }
 
     // All axes drive at once at one speed: the largest difference of an axis.
+    #[tactic(auto, unfolding(crate::specs::Distance::distance_of))]
     pub fn distance(self, other: State) -> f64
         ensures { result ≡ distance_of self other }
     {
@@ -128,6 +111,7 @@ impl State {
     }
 
     // The state at the part t of the way from self to to.
+    #[tactic(auto, unfolding(crate::specs::Steering::interpolate_of))]
     pub fn interpolate(self, to: State, t: f64) -> State
         ensures { result ≡ interpolate_of self to t }
     {
@@ -139,6 +123,7 @@ impl State {
     }
 
     // The new state of a tree step from self, whose distance to the sample is least: at most max_distance on the way.
+    #[tactic(auto, unfolding(crate::specs::Steering::steer_by_of))]
     pub fn steer_by(self, sample: State, max_distance: f64, least: f64) -> State
         ensures { result ≡ steer_by_of max_distance least self sample }
     {
@@ -149,6 +134,7 @@ impl State {
         }
     }
 
+    #[tactic(auto, unfolding(crate::specs::Steering::steer_of))]
     pub fn steer(self, sample: State, max_distance: f64) -> State
         ensures { result ≡ steer_of max_distance self sample }
     {
