@@ -10,29 +10,22 @@ ghost use Rattle.fields.specs.Satisfied.{satisfied_of};
 use state::State;
 
 // The mount's limits, low at most high on each axis.
-#[derive(Clone, Copy)]
+#[derive(Clone, Copy, PartialEq)]
 pub struct Limits {
     pub low: State,
     pub high: State,
 }
 
-#[derive(Clone, Copy)]
-pub enum LimitsMade {
-    Good(Limits),
-    Bad,
-}
-
 impl Limits {
-    pub fn new(low: State, high: State) -> LimitsMade
+    #[tactic(auto, unfolding(crate::specs::Made::limits_of))]
+    pub fn new(low: State, high: State) -> Option<Limits>
         ensures { result ≡ limits_of low high }
     {
-        let l = Limits { low, high };
-        if l.is_good() {
-            return LimitsMade::Good(l);
-        }
-        LimitsMade::Bad
+        let limits = Limits { low, high };
+        limits.is_good().then_some(limits)
     }
 
+    #[tactic(auto, unfolding(crate::specs::Ranges::good_limits))]
     pub fn is_good(self) -> bool
         ensures { result ≡ good_limits self }
     {
@@ -41,15 +34,9 @@ impl Limits {
 }
 
 // A segment length, max_distance, search_radius or connection_radius.
-#[derive(Clone, Copy)]
+#[derive(Clone, Copy, PartialEq)]
 pub struct Length {
     pub value: f64,
-}
-
-#[derive(Clone, Copy)]
-pub enum LengthMade {
-    Good(Length),
-    Bad,
 }
 
 impl Length {
@@ -57,16 +44,15 @@ impl Length {
 
     pub const MOST: f64 = 4096.0;
 
-    pub fn new(value: f64) -> LengthMade
+    #[tactic(auto, unfolding(crate::specs::Made::length_of))]
+    pub fn new(value: f64) -> Option<Length>
         ensures { result ≡ length_of value }
     {
-        let l = Length { value };
-        if l.is_good() {
-            return LengthMade::Good(l);
-        }
-        LengthMade::Bad
+        let length = Length { value };
+        length.is_good().then_some(length)
     }
 
+    #[tactic(auto, unfolding(crate::specs::Ranges::good_length))]
     pub fn is_good(self) -> bool
         ensures { result ≡ good_length self }
     {
@@ -75,16 +61,10 @@ impl Length {
 }
 
 // Where a route is to end: near enough to the centre.
-#[derive(Clone, Copy)]
+#[derive(Clone, Copy, PartialEq)]
 pub struct Goal {
     pub centre: State,
     pub radius: f64,
-}
-
-#[derive(Clone, Copy)]
-pub enum GoalMade {
-    Good(Goal),
-    Bad,
 }
 
 impl Goal {
@@ -92,26 +72,22 @@ impl Goal {
 
     pub const MOST_RADIUS: f64 = 4096.0;
 
-    pub fn new(centre: State, radius: f64) -> GoalMade
+    #[tactic(auto, unfolding(crate::specs::Made::goal_of))]
+    pub fn new(centre: State, radius: f64) -> Option<Goal>
         ensures { result ≡ goal_of centre radius }
     {
-        let g = Goal { centre, radius };
-        if g.is_good() {
-            return GoalMade::Good(g);
-        }
-        GoalMade::Bad
+        let goal = Goal { centre, radius };
+        goal.is_good().then_some(goal)
     }
 
+    #[tactic(auto, unfolding(crate::specs::Ranges::good_goal))]
     pub fn is_good(self) -> bool
         ensures { result ≡ good_goal self }
     {
-        let centre = self.centre;
-        if centre.is_good() {
-            return state::inside(Goal::LEAST_RADIUS, Goal::MOST_RADIUS, self.radius);
-        }
-        false
+        self.centre.is_good() && state::inside(Goal::LEAST_RADIUS, Goal::MOST_RADIUS, self.radius)
     }
 
+    #[tactic(auto, unfolding(crate::specs::Satisfied::satisfied_of))]
     pub fn is_satisfied(self, s: State) -> bool
         ensures { result ≡ satisfied_of self s }
     {

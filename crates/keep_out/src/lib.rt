@@ -8,7 +8,7 @@ ghost use Rattle.keep_out.specs.Good.{good_disc, good_keep_out, made_of, box_of,
 use state::State;
 
 // Three kinds, each carrying its own numbers.
-#[derive(Clone, Copy)]
+#[derive(Clone, Copy, PartialEq)]
 pub enum KeepOut {
     // Faces belong to it.
     Box { low: State, high: State },
@@ -18,56 +18,47 @@ pub enum KeepOut {
     Floor(f64),
 }
 
-#[derive(Clone, Copy)]
-pub enum KeepOutMade {
-    Good(KeepOut),
-    Bad,
-}
-
 impl KeepOut {
     // The range of a disc's radius; every other number is a coordinate.
     pub const LEAST_RADIUS: f64 = 0.0;
 
     pub const MOST_RADIUS: f64 = 1024.0;
 
-    fn made(self) -> KeepOutMade
+    #[tactic(auto, unfolding(crate::specs::Good::made_of))]
+    fn made(self) -> Option<KeepOut>
         ensures { result ≡ made_of self }
     {
-        if self.is_good() {
-            return KeepOutMade::Good(self);
-        }
-        KeepOutMade::Bad
+        self.is_good().then_some(self)
     }
 
-    pub fn new_box(low: State, high: State) -> KeepOutMade
+    pub fn new_box(low: State, high: State) -> Option<KeepOut>
         ensures { result ≡ box_of low high }
     {
         KeepOut::Box { low, high }.made()
     }
 
-    pub fn new_disc(az: f64, el: f64, radius: f64) -> KeepOutMade
+    pub fn new_disc(az: f64, el: f64, radius: f64) -> Option<KeepOut>
         ensures { result ≡ disc_of az el radius }
     {
         KeepOut::Disc { az, el, radius }.made()
     }
 
-    pub fn new_floor(el: f64) -> KeepOutMade
+    pub fn new_floor(el: f64) -> Option<KeepOut>
         ensures { result ≡ floor_of el }
     {
         KeepOut::Floor(el).made()
     }
 
+    #[tactic(auto, unfolding(crate::specs::Good::good_disc))]
     fn is_disc(az: f64, el: f64, radius: f64) -> bool
         ensures { result ≡ good_disc az el radius }
     {
-        if State::is_coordinate(az) {
-            if State::is_coordinate(el) {
-                return state::inside(KeepOut::LEAST_RADIUS, KeepOut::MOST_RADIUS, radius);
-            }
-        }
-        false
+        State::is_coordinate(az)
+            && State::is_coordinate(el)
+            && state::inside(KeepOut::LEAST_RADIUS, KeepOut::MOST_RADIUS, radius)
     }
 
+    #[tactic(auto, unfolding(crate::specs::Good::good_keep_out))]
     pub fn is_good(self) -> bool
         ensures { result ≡ good_keep_out self }
     {
@@ -78,6 +69,7 @@ impl KeepOut {
         }
     }
 
+    #[tactic(auto, unfolding(crate::specs::Covers::covers_of))]
     pub fn covers(self, s: State) -> bool
         ensures { result ≡ covers_of self s }
     {

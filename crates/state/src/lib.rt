@@ -11,7 +11,7 @@ ghost use Rattle.state.specs.Distance.{apart_of, wider_of, distance_of};
 ghost use Rattle.state.specs.Steering.{interpolate_of, steer_by_of, steer_of};
 
 // Azimuth, elevation and feed rotation: one record that travels by value.
-#[derive(Clone, Copy)]
+#[derive(Clone, Copy, PartialEq)]
 pub struct State {
     pub az: f64,
     pub el: f64,

@@ -1,4 +1,0 @@
-use Rattle.keep_out.proofs.KeepOut.new_box.Goals as goal
-
-pub returns : goal.returns
-returns c = c.made.ensures
