@@ -4,7 +4,7 @@
 ghost use Rattle.std.specs.Prelude.{◌≡◌};
 ghost use Rattle.answer.specs.Number.{number_of};
 
-#[derive(Clone, Copy)]
+#[derive(Clone, Copy, PartialEq, Eq)]
 pub enum Answer {
     // The call did what it says; a route is in the buffer where one was asked for.
     Done,
@@ -26,12 +26,12 @@ pub enum Answer {
     Room,
 }
 
-impl Answer {
-    // The answer's number in document 01's table.
-    pub fn number(self) -> usize
-        ensures { result ≡ number_of self }
-    {
-        match self {
+// The answer's number in document 01's table.
+impl From<Answer> for usize {
+    ghost from_gives = { λ answer number. number ≡ number_of answer };
+
+    fn from(answer: Answer) -> usize {
+        match answer {
             Answer::Done => 0,
             Answer::Uninitialised => 1,
             Answer::BadInput => 2,
