@@ -19,12 +19,12 @@ pub fn mark(rows: &mut [u64], i: usize, j: usize)
     ensures { Marked rows.old i j rows.new }
 {
     let at = 4 * i + j / 64;
-    rows[at] = rows[at] | (1 << (j % 64));
+    rows[at] |= 1 << (j % 64);
 }
 
 // Joins i and j: sets the bits (i, j) and (j, i).
 pub fn link(legs: &mut [u64; 1024], i: usize, j: usize)
-    requires { (i < 256) × (j < 256) × (length legs.old ≡ 1024) }
+    requires { (i < 256) × (j < 256) }
     ensures { Linked legs.old i j legs.new }
 {
     mark(legs, i, j);
@@ -38,28 +38,35 @@ fn without(x: u64, y: u64) -> u64
     (x | y) ^ y
 }
 
-// The first neighbour of i from the number `from` on that is not among the seen; 256 where there is none. So a row is walked in ascending
-// order, a word at a time, and one that was seen costs nothing.
-pub fn next_unseen<'a>(legs: &'a [u64; 1024], i: usize, seen: &'a [u64; 4], from: usize) -> usize
-    requires { (i < 256) × (from ≤ 256) }
-    ensures { Next (unseen_at legs.now i seen.now) from result }
+// The first neighbour of i from the number `from` on and below `end` that is not among the seen. So a row is walked in ascending order, a word
+// at a time, and a neighbour that was seen costs nothing.
+pub fn next_unseen(
+    legs: &[u64; 1024],
+    i: usize,
+    seen: &[u64; 4],
+    from: usize,
+    end: usize,
+) -> Option<usize>
+    requires { (i < 256) × (end ≤ 256) }
+    ensures { Next (unseen_at legs.now i seen.now) from end result }
 {
     let mut at = from;
-    'words: while at < 256 {
+    'words: while at < end {
         let rest = without(legs[4 * i + at / 64], seen[at / 64]) >> (at % 64);
         if rest != 0 {
-            return at + u64::trailing_zeros(rest) as usize;
+            let found = at + rest.trailing_zeros() as usize;
+            return (found < end).then_some(found);
         }
         at = 64 * (at / 64 + 1);
     }
-    256
+    None
 }
 
-// The first neighbour of i from the number `from` on; 256 where there is none.
-pub fn next(legs: &[u64; 1024], i: usize, from: usize) -> usize
-    requires { (i < 256) × (from ≤ 256) }
-    ensures { Next (leg_at legs.now i) from result }
+// The first neighbour of i from the number `from` on and below `end`.
+pub fn next(legs: &[u64; 1024], i: usize, from: usize, end: usize) -> Option<usize>
+    requires { (i < 256) × (end ≤ 256) }
+    ensures { Next (leg_at legs.now i) from end result }
 {
     let none: [u64; 4] = [0; 4];
-    next_unseen(legs, i, &none, from)
+    next_unseen(legs, i, &none, from, end)
 }
