@@ -9,24 +9,17 @@ use borrow.Author.Tests.{eq-eqb, ne_eqb, lt-ltb, le-ltb}
 use lib.Dec.{eqb}
 use lib.ListN.{length, set}
 use lib.Seq.{get_or-set_same, get_or-set_other}
-use lib.Ieee.{Float, nan}
 use Rattle.state.specs.declared.State.{State}
 use Rattle.legs.specs.Bits.{leg_at}
 use Rattle.roadmap.specs.Map.{Milestone, add_of}
-use Rattle.state.specs.Rows.{row_at}
+use Rattle.state.specs.Rows.{state_at}
 use Rattle.roadmap.specs.View.{span_of, view_of, Clean, Joins}
 use Rattle.roadmap.proofs.Span.{span_snoc, span_same, span_mark}
 
-module _ (az el feed : List Float) (old : List ℕ) (n : ℕ) (f : ℕ → Bool) (now : List ℕ) (s : State)
-    (la : length az ≡ 256) (le : length el ≡ 256) (lf : length feed ≡ 256) (room : n < 256) (clean : Clean old n) (joins : Joins old n n f now) where
-  abbrev az' : List Float
-  az' = set az n s.az
-
-  abbrev el' : List Float
-  el' = set el n s.el
-
-  abbrev feed' : List Float
-  feed' = set feed n s.feed
+module _ (states : List State) (old : List ℕ) (n : ℕ) (f : ℕ → Bool) (now : List ℕ) (s : State)
+    (long : length states ≡ 256) (room : n < 256) (clean : Clean old n) (joins : Joins old n n f now) where
+  abbrev states' : List State
+  states' = set states n s
 
   cell : (a b : ℕ) → a < n → b < n → leg_at now a b ≡ leg_at old a b
   cell a b ha hb =
@@ -42,13 +35,11 @@ module _ (az el feed : List Float) (old : List ℕ) (n : ℕ) (f : ℕ → Bool)
   cell_last : leg_at now n n ≡ false
   cell_last = joins.is n n room room ∙ rw (clean.row n n room room (omega arith), eq-eqb n n refl, le-ltb n n (omega arith))
 
-  state_same : (a : ℕ) → a < n → row_at az' el' feed' a ≡ row_at az el feed a
-  state_same a ha =
-      let e : a ≡ n → ⊥ = λ z. omega arith in
-      rw (get_or-set_other az n a s.az nan e, get_or-set_other el n a s.el nan e, get_or-set_other feed n a s.feed nan e)
+  state_same : (a : ℕ) → a < n → state_at states' a ≡ state_at states a
+  state_same a ha = get_or-set_other states n a s _ (λ z. omega arith)
 
-  state_new : row_at az' el' feed' n ≡ s
-  state_new = rw (get_or-set_same az n s.az nan (omega arith), get_or-set_same el n s.el nan (omega arith), get_or-set_same feed n s.feed nan (omega arith))
+  state_new : state_at states' n ≡ s
+  state_new = get_or-set_same states n s _ (omega arith)
 
   row_old : (a : ℕ) → a < n → span_of 0 (suc n) (λ (j : ℕ). leg_at now a j) ≡ span_of 0 n (λ (j : ℕ). leg_at old a j) ++ (f a ∷ [])
   row_old a ha =
@@ -64,10 +55,10 @@ module _ (az el feed : List Float) (old : List ℕ) (n : ℕ) (f : ℕ → Bool)
       (let e : 0 + n ≡ n = omega arith in rw e cell_last)
 
   abbrev entry : ℕ → Milestone
-  entry a = record { at = row_at az' el' feed' a; legs = span_of 0 (suc n) (λ (j : ℕ). leg_at now a j) }
+  entry a = record { at = state_at states' a; legs = span_of 0 (suc n) (λ (j : ℕ). leg_at now a j) }
 
   abbrev grown : ℕ → Milestone
-  grown a = record { at = row_at az el feed a; legs = span_of 0 n (λ (j : ℕ). leg_at old a j) ++ (f a ∷ []) }
+  grown a = record { at = state_at states a; legs = span_of 0 n (λ (j : ℕ). leg_at old a j) ++ (f a ∷ []) }
 
   entry_old : (a : ℕ) → a < n → entry a ≡ grown a
   entry_old a ha = rw (state_same a ha, row_old a ha)
@@ -75,14 +66,14 @@ module _ (az el feed : List Float) (old : List ℕ) (n : ℕ) (f : ℕ → Bool)
   entry_new : entry (0 + n) ≡ record { at = s; legs = span_of 0 n f ++ (false ∷ []) }
   entry_new = let e : 0 + n ≡ n = omega arith in rw (e, state_new, row_new)
 
-  pub view_add : view_of az' el' feed' now (n + 1) ≡ add_of (view_of az el feed old n) s (span_of 0 n f)
+  pub view_add : view_of states' now (n + 1) ≡ add_of (view_of states old n) s (span_of 0 n f)
   unfolding view_of add_of
   view_add =
       rw (add-one n)
       (span_snoc 0 n entry
       ∙ ap₂ (λ (l : List Milestone) (x : Milestone). l ++ (x ∷ []))
       (span_same 0 n entry grown (λ j _ h. entry_old j (omega arith))
-      ∙ sym (span_mark 0 n (row_at az el feed) (λ (i : ℕ). span_of 0 n (λ (j : ℕ). leg_at old i j)) f)) entry_new)
+      ∙ sym (span_mark 0 n (state_at states) (λ (i : ℕ). span_of 0 n (λ (j : ℕ). leg_at old i j)) f)) entry_new)
 
   pub clean_add : Clean now (n + 1)
   clean_add =

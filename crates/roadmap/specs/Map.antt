@@ -1,9 +1,7 @@
 -- Document 01, "PRM construction": a roadmap's milestones in order, each with its neighbours, which ascend.
-use Rattle.std.specs.Prelude.{ℕ, Bool, false, cond, List, [], ◌∷◌, ◌++◌, map, ltb, length, get_or}
-use Rattle.std.specs.Float.{nan}
+use Rattle.std.specs.Prelude.{ℕ, Bool, false, cond, Option, Some, None, List, [], ◌∷◌, ◌++◌, map, ltb, length, get_or}
+use Rattle.state.specs.Rows.{nowhere}
 use Rattle.state.specs.declared.State.{State}
-use Rattle.roadmap.specs.declared.MilestoneAt.{MilestoneAt}
-use Rattle.roadmap.specs.declared.MilestoneAt.TheVariants.{At, Nothing}
 
 -- a milestone, and by milestone number whether a leg joins the two
 pub record Milestone : Type 0 where
@@ -12,11 +10,11 @@ pub record Milestone : Type 0 where
 
 -- the milestone at i; past the end no number and no leg
 unfoldable pub milestone_at : List Milestone → ℕ → Milestone
-milestone_at ms i = get_or ms i (record { at = record { az = nan; el = nan; feed = nan }; legs = [] })
+milestone_at ms i = get_or ms i (record { at = nowhere; legs = [] })
 
 -- what a caller reads at i
-unfoldable pub milestone_of : List Milestone → ℕ → MilestoneAt
-milestone_of ms i = cond (ltb i (length ms)) (At (milestone_at ms i).at) Nothing
+unfoldable pub milestone_of : List Milestone → ℕ → Option State
+milestone_of ms i = cond (ltb i (length ms)) (Some (milestone_at ms i).at) None
 
 -- whether a leg joins i and j
 unfoldable pub leg_of : List Milestone → ℕ → ℕ → Bool

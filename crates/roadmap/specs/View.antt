@@ -1,6 +1,7 @@
 -- The roadmap that a table holds, as a list.
-use Rattle.std.specs.Prelude.{ℕ, zero, suc, ◌+◌, ◌<◌, ◌≤◌, min, Bool, false, ◌&&◌, ◌||◌, List, [], ◌∷◌, ◌≡◌, eqb, ltb, length, Float}
-use Rattle.state.specs.Rows.{row_at}
+use Rattle.std.specs.Prelude.{ℕ, zero, suc, ◌+◌, ◌<◌, ◌≤◌, min, Bool, false, ◌&&◌, ◌||◌, List, [], ◌∷◌, ◌≡◌, eqb, ltb, length, set}
+use Rattle.state.specs.Rows.{state_at}
+use Rattle.state.specs.declared.State.{State}
 use Rattle.legs.specs.Bits.{leg_at}
 use Rattle.roadmap.specs.declared.Roadmap.{Roadmap}
 use Rattle.roadmap.specs.Map.{Milestone}
@@ -10,13 +11,17 @@ unfoldable pub span_of : {A : Type 0} → ℕ → ℕ → (ℕ → A) → List A
 span_of i zero f = []
 span_of i (suc n) f = f i ∷ span_of (i + 1) n f
 
--- the first n milestones of three columns and a square of legs
-unfoldable pub view_of : List Float → List Float → List Float → List ℕ → ℕ → List Milestone
-view_of az el feed legs n = span_of 0 n (λ (i : ℕ). record { at = row_at az el feed i; legs = span_of 0 n (λ (j : ℕ). leg_at legs i j) })
+-- the first n milestones of a table of states and a square of legs
+unfoldable pub view_of : List State → List ℕ → ℕ → List Milestone
+view_of states legs n = span_of 0 n (λ (i : ℕ). record { at = state_at states i; legs = span_of 0 n (λ (j : ℕ). leg_at legs i j) })
 
 -- as many as the count says, at most the 256 of the table
 unfoldable pub milestones_of : Roadmap → List Milestone
-milestones_of m = view_of m.az m.el m.feed m.legs (min m.count 256)
+milestones_of m = view_of m.milestones m.legs (min m.count 256)
+
+-- the table with a state more in the next place, and the legs as they are
+unfoldable pub pushed_of : Roadmap → State → Roadmap
+pushed_of m s = record { milestones = set m.milestones m.count s; legs = m.legs; count = m.count + 1 }
 
 -- no leg beyond the first n
 pub record Clean (legs : List ℕ) (n : ℕ) : Type 0 where

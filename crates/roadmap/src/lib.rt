@@ -1,27 +1,18 @@
-// The roadmap of PRM (document 01, "PRM construction"): milestones by columns, and legs as a square of bits.
+// The roadmap of PRM (document 01, "PRM construction"): milestones in a table, and legs as a square of bits.
 #![tactic(auto)]
 
-ghost use Rattle.std.specs.Prelude.{[], ◌≡◌, length};
+ghost use Rattle.std.specs.Prelude.{[], ◌≡◌, ◌<◌, length, take};
 ghost use Rattle.roadmap.specs.Map.{milestone_of, leg_of};
-ghost use Rattle.roadmap.specs.View.{milestones_of};
+ghost use Rattle.roadmap.specs.View.{milestones_of, pushed_of};
 
 use state::State;
 
-// The first count rows are the milestones.
+// The first count places are the milestones. A count beyond the table reads as its end.
 #[derive(Clone, Copy)]
 pub struct Roadmap {
-    pub az: [f64; 256],
-    pub el: [f64; 256],
-    pub feed: [f64; 256],
+    pub milestones: [State; 256],
     pub legs: [u64; 1024],
     pub count: usize,
-}
-
-// What stands at a number.
-#[derive(Clone, Copy)]
-pub enum MilestoneAt {
-    At(State),
-    Nothing,
 }
 
 impl Roadmap {
@@ -30,47 +21,53 @@ impl Roadmap {
     pub fn empty() -> Roadmap
         ensures { milestones_of result ≡ [] }
     {
+        let zero = State {
+            az: 0.0,
+            el: 0.0,
+            feed: 0.0,
+        };
         Roadmap {
-            az: [0.0; 256],
-            el: [0.0; 256],
-            feed: [0.0; 256],
+            milestones: [zero; 256],
             legs: [0; 1024],
             count: 0,
         }
     }
 
-    // How many milestones there are. A count past the table reads as its end.
-    pub fn size(self) -> usize
-        ensures { result ≡ length (milestones_of self) }
+    // The places that hold milestones.
+    pub fn held(&self) -> &[State]
+        ensures { result.now ≡ take self.now.count self.now.milestones }
     {
-        let n = self.count;
-        if n < Roadmap::MOST { n } else { Roadmap::MOST }
+        let count = self.count.min(Roadmap::MOST);
+        &self.milestones[..count]
     }
 
-    pub fn milestone(self, i: usize) -> MilestoneAt
-        ensures { result ≡ milestone_of (milestones_of self) i }
+    // How many milestones there are.
+    pub fn size(&self) -> usize
+        ensures { result ≡ length (milestones_of self.now) }
     {
-        let count = self.size();
-        if i < count {
-            return MilestoneAt::At(State {
-                az: self.az[i],
-                el: self.el[i],
-                feed: self.feed[i],
-            });
-        }
-        MilestoneAt::Nothing
+        self.held().len()
+    }
+
+    pub fn milestone(&self, i: usize) -> Option<State>
+        ensures { result ≡ milestone_of (milestones_of self.now) i }
+    {
+        self.held().get(i).copied()
     }
 
     // Whether a leg joins i and j. The neighbours of i are the j of which this is true.
-    pub fn has_leg(self, i: usize, j: usize) -> bool
-        ensures { result ≡ leg_of (milestones_of self) i j }
+    pub fn has_leg(&self, i: usize, j: usize) -> bool
+        ensures { result ≡ leg_of (milestones_of self.now) i j }
     {
         let count = self.size();
-        if i < count {
-            if j < count {
-                return legs::leg(&self.legs, i, j);
-            }
-        }
-        false
+        i < count && j < count && legs::leg(&self.legs, i, j)
+    }
+
+    // One milestone more, in the next place. Its legs are those that stand in its row already.
+    pub fn push(&mut self, state: State)
+        requires { self.old.count < 256 }
+        ensures { self.new ≡ pushed_of self.old state }
+    {
+        self.milestones[self.count] = state;
+        self.count += 1;
     }
 }

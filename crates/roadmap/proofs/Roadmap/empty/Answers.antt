@@ -5,4 +5,4 @@ use Rattle.roadmap.proofs.Roadmap.empty.Goals as goal
 
 pub returns : goal.returns
 unfolding milestones_of
-returns c = view_none _ _ _ _ _ refl
+returns c = view_none _ _ 0 refl

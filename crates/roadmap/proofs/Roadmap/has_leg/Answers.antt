@@ -1,35 +1,29 @@
-use Prim.Native.Nat.{min}
 use mathlib.Core.Path.{◌≡◌, ◌∙◌}
 use native.Mathlib.Omega.{arith}
-use Rattle.roadmap.specs.View.{milestones_of}
-use Rattle.roadmap.proofs.View.{view_long, leg_at_is, leg_over, no_legs}
+use lib.ListN.{length}
+use borrow.Author.Rules.{rules}
+use Rattle.laws.specs.Rest.{mapped}
+use Rattle.roadmap.proofs.View.{size_few, leg_is, leg_past, leg_none}
 use Rattle.roadmap.proofs.Roadmap.has_leg.Goals as goal
-use Rattle.roadmap.proofs.Roadmap.has_leg.Goals.{After-size-count}
-
--- the size is the smaller of the count and 256
-most : (c : After-size-count) → c.size-count.result ≡ min c.args.self.count 256
-unfolding milestones_of
-most c = c.size-count.ensures ∙ view_long _ _ _ _ _
+use Rattle.roadmap.proofs.Roadmap.has_leg.Goals.{then-i-count, else-i-count}
+use Rattle.std.proofs.Common.{◌≤◌, le-ltb}
 
 pub leg-requires : goal.leg-requires
 leg-requires c =
-    let m = most (goal.at.leg-requires c).After-size-count in
+    let long : length c.args.self.now.milestones ≡ 256 = search (mapped, rules) in
+    let few = size_few c.args.self.now long _ c.size-count.ensures in
     (omega arith, omega arith)
 
 pub returns-then-j-count : goal.returns-then-j-count
-unfolding milestones_of
 returns-then-j-count c =
-    let m = most (goal.at.returns-then-j-count c).After-size-count in
-    c.leg.ensures ∙ leg_at_is _ _ _ _ _ _ _ (omega arith) (omega arith)
+    let long : length c.args.self.now.milestones ≡ 256 = search (mapped, rules) in
+    c.leg.ensures ∙ leg_is c.args.self.now long _ c.size-count.ensures _ _ c.if-j-count.true.0 c.if-j-count.true.1
 
 pub returns-else-j-count : goal.returns-else-j-count
-unfolding milestones_of
 returns-else-j-count c =
-    let m = most (goal.at.returns-else-j-count c).After-size-count in
-    leg_over _ _ _ _ _ _ _ (omega arith) (omega arith)
-
-pub returns-else-i-count : goal.returns-else-i-count
-unfolding milestones_of
-returns-else-i-count c =
-    let m = most (goal.at.returns-else-i-count c).After-size-count in
-    no_legs _ _ _ _ _ _ _ (omega arith)
+    let long : length c.args.self.now.milestones ≡ 256 = search (mapped, rules) in
+    let m = c.args.self.now in
+    elim c.if-i-count.branch [
+      | then-i-count w ↦ let past : c.size-count.result ≤ c.args.j = omega arith in w.t-6-is ∙ le-ltb _ _ past ∙ leg_past m long _ c.size-count.ensures _ _ w.if-i-count.true past
+      | else-i-count w ↦ w.t-6-is ∙ le-ltb _ _ w.if-i-count.false ∙ leg_none m long _ c.size-count.ensures _ _ w.if-i-count.false
+    ]
