@@ -1,6 +1,7 @@
 -- Document 01, "RRT*": neighbours are the nodes with distance(new, node) strictly below search_radius, in index order.
-use Rattle.std.specs.Prelude.{ℕ, ◌+◌, ◌≤◌, ◌<◌, cond, List, [], ◌∷◌, ◌≡◌, length, take, get_or, Float}
+use Rattle.std.specs.Prelude.{ℕ, ◌+◌, ◌≤◌, ◌<◌, cond, List, [], ◌∷◌, ◌≡◌, length, take, Float}
 use Rattle.std.specs.Float.Ieee.{lt}
+use Rattle.std.specs.List.{All}
 use Rattle.state.specs.Distance.{distance_of}
 use Rattle.state.specs.declared.State.{State}
 
@@ -14,13 +15,13 @@ neighbours_from radius new i (x ∷ xs) =
 unfoldable pub neighbours_of : Float → State → List State → List ℕ
 neighbours_of radius new states = neighbours_from radius new 0 states
 
--- each of the first many is the number of one of n nodes
-abbrev pub Numbers : ℕ → ℕ → List ℕ → Type 0
-Numbers n many found = (k : ℕ) → k < many → get_or found k 0 < n
+-- each is the number of one of n nodes
+abbrev pub Numbers : ℕ → List ℕ → Type 0
+Numbers n l = All (λ i. i < n) l
 
 -- the first many of a list are the neighbours
 pub record Found (radius : Float) (new : State) (n : ℕ) (states : List State) (many : ℕ) (found : List ℕ) : Type 0 where
   pub is : take many found ≡ neighbours_of radius new states
   pub few : many ≤ n
-  pub numbers : Numbers n many found
+  pub numbers : Numbers n (take many found)
   pub sized : length found ≡ 512
