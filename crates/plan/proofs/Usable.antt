@@ -2,7 +2,7 @@
 use Prim.Native.Nat.{ℕ, ◌≤◌, ◌<◌}
 use mathlib.Core.Bool.{Bool, true, false, ◌&&◌}
 use mathlib.Core.Path.{◌≡◌, sym, ◌∙◌}
-use borrow.Author.Tests.{lt-ltb, le-ltb, le-leb, ltb-true, leb-true}
+use borrow.Author.Tests.{lt-ltb, le-leb, ltb-true, leb-true}
 use lib.Dec.{ltb, leb}
 use Rattle.laws.specs.Order.{whether, clash}
 use Rattle.state.specs.declared.State.{State}
@@ -13,10 +13,6 @@ module _ (ready : Bool) (count : ℕ) where
   pub usable_yes : ready ≡ true → 0 < count → leb count 512 ≡ usable_of ready count
   unfolding usable_of
   usable_yes e h = rw (e, lt-ltb 0 count h)
-
-  pub usable_empty : ready ≡ true → count ≤ 0 → false ≡ usable_of ready count
-  unfolding usable_of
-  usable_empty e h = rw (e, le-ltb 0 count h)
 
   pub usable_no : ready ≡ false → false ≡ usable_of ready count
   unfolding usable_of

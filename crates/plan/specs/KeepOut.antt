@@ -1,15 +1,15 @@
 -- Document 01, "Sizes and answers", for a keep-out that is added: 1, 2, 4 in that order, and a refusal keeps all. For a tree planner it affects
 -- only later motions: the tables stay.
-use Rattle.std.specs.Prelude.{Bool, cond, List, [], ◌∷◌, ◌++◌, ltb, length}
+use Rattle.std.specs.Prelude.{Bool, cond, Result, Ok, Err, List, [], ◌∷◌, ◌++◌, ltb, length}
 use Rattle.answer.specs.declared.Answer.{Answer}
 use Rattle.answer.specs.declared.Answer.TheVariants.{Done, Uninitialised, BadInput, Full}
 use Rattle.keep_out.specs.Good.{good_keep_out}
 use Rattle.keep_out_table.specs.Table.{keep_outs_of}
 use Rattle.keep_out.specs.declared.KeepOut.{KeepOut}
+use Rattle.keep_out_table.specs.declared.KeepOuts.{KeepOuts}
 use Rattle.plan.specs.Plan.{Plan, plan_of, plan_under, Planner, unset, set}
 use Rattle.plan.specs.Setup.{Told}
 use Rattle.plan.specs.declared.Setting.{Setting}
-use Rattle.plan.specs.declared.More.{More}
 
 -- a list of keep-outs after one was to be added, and the answer
 pub record Longer : Type 0 where
@@ -23,14 +23,19 @@ longer_of ks k =
     (cond (ltb (length ks) 32) (record { keep_outs = ks ++ (k ∷ []); answer = Done }) (record { keep_outs = ks; answer = Full }))
     (record { keep_outs = ks; answer = BadInput })
 
+-- a table that may have become a longer one
+abbrev pub told_of : KeepOuts → Result KeepOuts Answer → Longer
+told_of t (Ok longer) = record { keep_outs = keep_outs_of longer; answer = Done }
+told_of t (Err answer) = record { keep_outs = keep_outs_of t; answer = answer }
+
 -- what a setup gave under the longer list, and the answer
 pub record Added : Type 0 where
   pub ready : Bool
   pub plan : Plan
   pub answer : Answer
 
-abbrev pub more_of : More → Added
-more_of r = record { ready = r.setting.ready; plan = plan_of r.setting; answer = r.answer }
+abbrev pub more_of : Setting → Answer → Added
+more_of s answer = record { ready = s.ready; plan = plan_of s; answer = answer }
 
 unfoldable pub longer_setting : Setting → KeepOut → Added
 longer_setting s k =

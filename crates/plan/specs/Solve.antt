@@ -6,6 +6,7 @@ use Rattle.state.specs.declared.State.{State}
 use Rattle.samples.specs.Samples.{good_samples, samples_of}
 use Rattle.route.specs.Written.{written_of}
 use Rattle.plan.specs.Plan.{Planner, unset, set}
+use Rattle.plan.specs.declared.Solved.{Solved}
 
 -- how a run ended: the tables, the answer, the route (none unless the answer is 0) and the samples taken
 pub record Ended (A : Type 0) : Type 0 where
@@ -24,6 +25,10 @@ pub record Outcome (P A : Type 0) : Type 0 where
   pub count : ℕ
   pub taken : ℕ
   pub route : List Float
+
+-- a planner's solve: what it was answered, and the route buffer after it
+abbrev pub outcome_of : {P A : Type 0} → Planner P A → Solved → List Float → Outcome P A
+outcome_of planner solved route = record { planner = planner; answer = solved.answer; count = solved.count; taken = solved.taken; route = route }
 
 -- a refusal keeps all
 abbrev pub refused_of : {P A : Type 0} → Planner P A → Answer → List Float → Outcome P A

@@ -3,7 +3,8 @@
 
 ghost use Rattle.std.specs.Prelude.{false, ◌≡◌};
 ghost use Rattle.plan.specs.Setup.{good_setup, setting_of, usable_of};
-ghost use Rattle.plan.specs.KeepOut.{more_of, longer_setting};
+ghost use Rattle.keep_out_table.specs.Table.{keep_outs_of};
+ghost use Rattle.plan.specs.KeepOut.{longer_of, told_of, more_of, longer_setting};
 
 use answer::Answer;
 use fields::{Goal, Length, Limits};
@@ -14,29 +15,19 @@ use state::State;
 use tree::Tree;
 
 // Whether every number of a setup is good. The start need not be valid.
+#[tactic(auto, unfolding(crate::specs::Setup::good_setup))]
 fn is_good(mount: Mount, reach: Length, start: State, goal: Goal) -> bool
     ensures { result ≡ good_setup mount reach start goal }
 {
-    if mount.is_good() {
-        if reach.is_good() {
-            if start.is_good() {
-                return goal.is_good();
-            }
-        }
-    }
-    false
+    mount.is_good() && reach.is_good() && start.is_good() && goal.is_good()
 }
 
 // Whether a setup was accepted, and left a tree that a setup can leave.
+#[tactic(auto, unfolding(crate::specs::Setup::usable_of))]
 pub fn is_usable(ready: bool, count: usize) -> bool
     ensures { result ≡ usable_of ready count }
 {
-    if ready {
-        if 0 < count {
-            return count <= Tree::MOST;
-        }
-    }
-    false
+    ready && 0 < count && count <= Tree::MOST
 }
 
 // What a setup gave, but for the start and what only one planner takes. Each planner keeps it beside its tables.
@@ -50,11 +41,27 @@ pub struct Setting {
     pub goal: Goal,
 }
 
-// A setting with one more keep-out, or as it was where that is refused.
+// What a solve answers.
 #[derive(Clone, Copy)]
-pub struct More {
-    pub setting: Setting,
+pub struct Solved {
     pub answer: Answer,
+    // The route's number of states.
+    pub count: usize,
+    // The samples taken.
+    pub taken: usize,
+}
+
+impl Solved {
+    // A refusal takes no sample and writes no route.
+    pub fn refused(answer: Answer) -> Solved
+        ensures { result ≡ record { answer = answer; count = 0; taken = 0 } }
+    {
+        Solved {
+            answer,
+            count: 0,
+            taken: 0,
+        }
+    }
 }
 
 impl Setting {
@@ -102,36 +109,27 @@ impl Setting {
         }
     }
 
-    // Bad numbers come before the 33rd.
-    pub fn with_keep_out(self, k: KeepOut) -> More
-        ensures { more_of result ≡ longer_setting self k }
+    // The table with one keep-out more, or why there is none. Bad numbers come before the 33rd.
+    fn longer(self, k: KeepOut) -> Result<KeepOuts, Answer>
+        ensures { told_of self.mount.table result ≡ longer_of (keep_outs_of self.mount.table) k }
     {
-        if k.is_good() {
-            let longer = self.mount.table.with(k);
-            let table = longer.table;
-            if longer.room {
-                let limits = self.mount.limits;
-                let segment = self.mount.segment;
-                let mount = Mount {
-                    limits,
-                    segment,
-                    table,
-                };
-                let mut setting = self;
-                setting.mount = mount;
-                return More {
-                    setting,
-                    answer: Answer::Done,
-                };
-            }
-            return More {
-                setting: self,
-                answer: Answer::Full,
-            };
+        if !k.is_good() {
+            return Err(Answer::BadInput);
         }
-        More {
-            setting: self,
-            answer: Answer::BadInput,
+        self.mount.table.with(k).ok_or(Answer::Full)
+    }
+
+    // A refusal keeps the setting.
+    #[tactic(auto, unfolding(crate::specs::KeepOut::longer_setting))]
+    pub fn add_keep_out(&mut self, k: KeepOut) -> Answer
+        ensures { more_of self.new result ≡ longer_setting self.old k }
+    {
+        match self.longer(k) {
+            Ok(table) => {
+                self.mount.table = table;
+                Answer::Done
+            }
+            Err(answer) => answer,
         }
     }
 }
