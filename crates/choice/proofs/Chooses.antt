@@ -1,97 +1,63 @@
--- The choice of the parent: what holds when the k-th neighbour is reached, and what one turn does to it. Distance and motion stay names.
+-- The choice of the parent: what one turn of the walk over the neighbours does to the definition. Distance and motion stay names.
 use Prim.Native.Nat.{ℕ, ◌+◌, ◌≤◌, ◌<◌}
-use mathlib.Core.Bool.{Bool, true, false, ◌&&◌, cond}
-use mathlib.Core.List.{List}
+use mathlib.Core.Bool.{Bool, ◌&&◌, cond}
+use mathlib.Core.List.{List, ◌∷◌}
 use mathlib.Core.Path.{◌≡◌, sym, ◌∙◌, ap, ap₂}
-use native.Mathlib.Omega.{arith}
 use lib.ListN.{length, take, drop, get_or}
 use lib.Seq.{get_or-take}
 use lib.Ieee.{Float, nan, binary64, add, lt}
-use Rattle.laws.specs.Rest.{rest_more, rest_none}
+use Rattle.std.proofs.Common.{add-one, drop-cons, drop_of_length-le}
 use Rattle.state.specs.Distance.{distance_of}
+use Rattle.state.specs.Rows.{state_at}
 use Rattle.state.specs.declared.State.{State}
 use Rattle.fields.specs.declared.Limits.{Limits}
 use Rattle.keep_out.specs.declared.KeepOut.{KeepOut}
 use Rattle.motion.specs.Accepts.{accepts_of}
-use Rattle.state.specs.Rows.{row_at}
+use Rattle.tree.specs.declared.Node.{Node}
+use Rattle.tree.specs.declared.Tree.{Tree}
 use Rattle.tree.specs.Table.{states_of}
-use Rattle.tree.proofs.Append.{state_is}
+use Rattle.tree.proofs.Nodes.{state_is}
 use Rattle.choice.specs.declared.Choice.{Choice}
 use Rattle.choice.specs.Parent.{cost_via, is_better, choose_from, choose_of}
 
--- what the new state costs under the node i, from the columns
-via_is :
-    (az el feed cost : List Float) (n : ℕ) (new : State) (i : ℕ) {d : Float} → n ≤ 512 → i < n → d ≡ distance_of new (row_at az el feed i) →
-    cost_via (states_of n az el feed) (take n cost) new i ≡ add binary64 (get_or cost i nan) d
-unfolding cost_via
-via_is az el feed cost n new i room h e = ap₂ (add binary64) (get_or-take n cost i nan h) (ap (distance_of new) (state_is az el feed n i room h) ∙ sym e)
-
-module _ (limits : Limits) (segment : Float) (ks : List KeepOut) (az el feed cost : List Float) (n : ℕ) (new : State) (nearest many : ℕ) (found : List ℕ) where
-  abbrev whole : Choice
-  whole = choose_of limits segment ks (states_of n az el feed) (take n cost) new nearest (take many found)
-
+module _ (limits : Limits) (segment : Float) (ks : List KeepOut) (t : Tree) (costs : List Float) (new : State) (neighbours : List ℕ) where
   -- the choice among some neighbours, with the best so far
   abbrev among : Choice → List ℕ → Choice
-  among = choose_from limits segment ks (states_of n az el feed) (take n cost) new
+  among = choose_from limits segment ks (states_of t) (take t.count costs) new
 
   -- and among those from k on
-  abbrev from : Choice → ℕ → Choice
-  from best k = among best (drop k (take many found))
+  abbrev pub choice_at : Choice → ℕ → Choice
+  choice_at best k = among best (drop k neighbours)
 
-  pub record Choosing (k parent : ℕ) (least : Float) : Type 0 where
-    pub within : k ≤ many
-    pub is : whole ≡ from (record { parent = parent; cost = least }) k
-
-  pub chooses_first : {d : Float} → n ≤ 512 → nearest < n → d ≡ distance_of new (row_at az el feed nearest) → Choosing 0 nearest (add binary64 (get_or cost nearest nan) d)
-  unfolding choose_of
-  chooses_first room h e = record { within = omega arith; is = ap (λ (c : Float). from (record { parent = nearest; cost = c }) 0) (via_is az el feed cost n new nearest room h e) }
-
-module _ {limits : Limits} {segment : Float} {ks : List KeepOut} {az el feed cost : List Float} {n : ℕ} {new : State} {nearest many : ℕ} {found : List ℕ}
-    {k parent : ℕ} {least : Float} (h : Choosing limits segment ks az el feed cost n new nearest many found k parent least) where
-  abbrev best : Choice
-  best = record { parent = parent; cost = least }
-
-  abbrev all : Choice
-  all = whole limits segment ks az el feed cost n new nearest many found
-
-  abbrev chosen : Choice → List ℕ → Choice
-  chosen = among limits segment ks az el feed cost n new nearest many found
-
-  abbrev rest : Choice → ℕ → Choice
-  rest = from limits segment ks az el feed cost n new nearest many found
-
-  pub chooses_last : many ≤ k → best ≡ all
+  pub choice_end : (best : Choice) (k : ℕ) → length neighbours ≤ k → choice_at best k ≡ best
   unfolding choose_from
-  chooses_last e = sym (h.is ∙ ap (chosen best) (rest_none many found k e))
+  choice_end best k h = ap (among best) (drop_of_length-le neighbours h)
 
-  -- one turn, at the neighbour i
-  module _ (room : n ≤ 512) (more : k < many) (long : many ≤ length found) (node : get_or found k 0 < n) {d : Float}
-      (far : d ≡ distance_of new (row_at az el feed (get_or found k 0))) where
-    abbrev i : ℕ
-    i = get_or found k 0
-
+  -- the node i, and its distance from the new state
+  module _ (room : t.count ≤ length t.nodes) (i : ℕ) (d : Node) (far : Float) (below : i < t.count) (is : far ≡ distance_of new (get_or t.nodes i d).state) where
+    -- what the new state costs under it
     abbrev via : Float
-    via = add binary64 (get_or cost i nan) d
+    via = add binary64 (get_or costs i nan) far
 
-    abbrev Next : ℕ → Float → Type 0
-    Next parent' least' = Choosing limits segment ks az el feed cost n new nearest many found (k + 1) parent' least'
+    via_is : cost_via (states_of t) (take t.count costs) new i ≡ via
+    unfolding cost_via
+    via_is = ap₂ (add binary64) (get_or-take t.count costs i nan below) (ap (distance_of new) (state_is t room i d below) ∙ sym is)
 
-    turn : all ≡ rest (cond (lt via least && accepts_of limits segment ks (row_at az el feed i) new) (record { parent = i; cost = via }) best) (k + 1)
-    unfolding choose_from is_better
-    turn =
-        h.is ∙ ap (chosen best) (rest_more many found k 0 more long)
-        ∙ ap₂ (λ (c : Float) (s : State). rest (cond (lt c least && accepts_of limits segment ks s new) (record { parent = i; cost = c }) best) (k + 1))
-        (via_is az el feed cost n new i room node far) (state_is az el feed n i room node)
+    pub choice_first : choose_of limits segment ks (states_of t) (take t.count costs) new i neighbours ≡ choice_at (record { parent = i; cost = via }) 0
+    unfolding choose_of
+    choice_first = ap (λ (c : Float). choice_at (record { parent = i; cost = c }) 0) via_is
 
-    -- it does not cost less
-    pub chooses_dear : {parent' : ℕ} {least' : Float} → lt via least ≡ false → parent' ≡ parent → least' ≡ least → Next parent' least'
-    chooses_dear t p q = rw (p, q) record { within = omega arith; is = turn ∙ rw t }
+    -- it is the k-th neighbour, and the motion from it to the new state is accepted or not
+    module _ (k n : ℕ) (more : k < length neighbours) (here : i ≡ get_or neighbours k n) (ok : Bool) (a : ok ≡ accepts_of limits segment ks (get_or t.nodes i d).state new) where
+      abbrev better : Choice → Float → Bool → Choice
+      better best c b = cond (lt c best.cost && b) (record { parent = i; cost = c }) best
 
-    module _ {ok : Bool} (a : ok ≡ accepts_of limits segment ks (row_at az el feed i) new) (t : lt via least ≡ true) where
-      -- it costs less, and the new state cannot be reached from it
-      pub chooses_barred : {parent' : ℕ} {least' : Float} → ok ≡ false → parent' ≡ parent → least' ≡ least → Next parent' least'
-      chooses_barred b p q = rw (p, q) record { within = omega arith; is = turn ∙ rw (t, ← a, b) }
+      turn : (best : Choice) → choice_at best k ≡ choice_at (better best via ok) (k + 1)
+      unfolding choose_from is_better
+      turn best =
+          let split : drop k neighbours ≡ i ∷ drop (k + 1) neighbours = rw (here, add-one, drop-cons neighbours k n more) in
+          let accepted : accepts_of limits segment ks (state_at (states_of t) i) new ≡ ok = rw (state_is t room i d below) (sym a) in
+          ap (among best) split ∙ ap₂ (λ (c : Float) (b : Bool). choice_at (better best c b) (k + 1)) via_is accepted
 
-      -- it costs less, and the new state can
-      pub chooses_one : {parent' : ℕ} {least' : Float} → ok ≡ true → parent' ≡ i → least' ≡ via → Next parent' least'
-      chooses_one b p q = rw (p, q) record { within = omega arith; is = turn ∙ rw (t, ← a, b) }
+      pub choice_turn : (best best' : Choice) → better best via ok ≡ best' → choice_at best k ≡ choice_at best' (k + 1)
+      choice_turn best best' e = turn best ∙ ap (λ (b : Choice). choice_at b (k + 1)) e

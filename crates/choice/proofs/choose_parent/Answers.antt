@@ -1,57 +1,32 @@
-use Prim.Native.Nat.{◌≤◌, ◌<◌}
+use Prim.Native.Nat.{◌≤◌}
+use mathlib.Core.Path.{◌≡◌, refl, sym, ◌∙◌}
 use native.Mathlib.Omega.{arith}
-use lib.ListN.{length, get_or}
-use Rattle.choice.proofs.Chooses.{chooses_first, chooses_one, chooses_barred, chooses_dear, chooses_last}
+use borrow.Author.Rules.{rules}
+use lib.ListN.{length}
+use Rattle.laws.specs.Rest.{mapped}
+use Rattle.choice.proofs.Chooses.{choice_first, choice_turn, choice_end}
 use Rattle.choice.proofs.choose_parent.Goals as goal
-use Rattle.choice.proofs.choose_parent.Goals.{After-i-1, Start, else-via-least, then-via-least+else-accepts, then-via-least+then-accepts}
+use Rattle.choice.proofs.choose_parent.Goals.{After-distance, then-via-best+then-check_motion, else-via-best, else-via-best-via-then-via-best+else-check_motion, else-via-best-via-else-via-best}
 
--- the neighbour is a node
-module _ (c : After-i-1) where
-  abbrev turn : After-i-1
-  turn = c
+-- the tree's table has places for its nodes
+roomy : (c : After-distance) → c.args.tree.now.count ≤ length c.args.tree.now.nodes
+roomy c = let sized : length c.args.tree.now.nodes ≡ 512 = search (mapped, rules) in omega arith
 
-  abbrev start : Start
-  start = c.before.before.before.before.before.before.before.before.before.before
+pub loop-i-init : goal.loop-i-init
+loop-i-init c = choice_first _ _ _ _ _ _ _ (roomy (goal.at.loop-i-init c).After-distance) _ _ _ c.requires.1 c.distance.ensures
 
-  node : get_or start.args.found.now turn.neighbours.k 0 < start.args.n
-  node = start.requires.3 _ turn.neighbours-test.true
-
-pub neighbours-init : goal.neighbours-init
-neighbours-init c =
-    chooses_first _ _ _ _ _ _ _ _ _ _ _ _ c.requires.0 c.requires.1 c.distance.ensures
-
-pub offset_bounds-az-i : goal.offset_bounds-az-i
-offset_bounds-az-i c = omega (arith, node (goal.at.offset_bounds-az-i c).After-i-1)
-
-pub bounds-az-i : goal.bounds-az-i
-bounds-az-i c = omega (arith, node (goal.at.bounds-az-i c).After-i-1)
-
-pub offset_bounds-el-i : goal.offset_bounds-el-i
-offset_bounds-el-i c = omega (arith, node (goal.at.offset_bounds-el-i c).After-i-1)
-
-pub bounds-el-i : goal.bounds-el-i
-bounds-el-i c = omega (arith, node (goal.at.bounds-el-i c).After-i-1)
-
-pub offset_bounds-feed-i : goal.offset_bounds-feed-i
-offset_bounds-feed-i c = omega (arith, node (goal.at.offset_bounds-feed-i c).After-i-1)
-
-pub bounds-feed-i : goal.bounds-feed-i
-bounds-feed-i c = omega (arith, node (goal.at.bounds-feed-i c).After-i-1)
-
-pub offset_bounds-cost-i : goal.offset_bounds-cost-i
-offset_bounds-cost-i c = omega (arith, node (goal.at.offset_bounds-cost-i c).After-i-1)
-
-pub bounds-cost-i : goal.bounds-cost-i
-bounds-cost-i c = omega (arith, node (goal.at.bounds-cost-i c).After-i-1)
-
-pub neighbours-preserved : goal.neighbours-preserved
-neighbours-preserved c =
-    let s = start (goal.at.neighbours-preserved c).After-i-1 in
-    let h = (turn (goal.at.neighbours-preserved c).After-i-1).neighbours.invariant in
-    let more = (turn (goal.at.neighbours-preserved c).After-i-1).neighbours-test.true in
-    let long : s.args.many ≤ length s.args.found.now = omega (arith, s.requires.0, s.requires.2, s.requires.4) in
-    let far = c.distance-in-neighbours.ensures in
-    elim c.if-via-least.branch [ then-via-least+then-accepts w ↦ chooses_one h s.requires.0 more long (node (goal.at.neighbours-preserved c).After-i-1) far w.accepts.ensures w.if-via-least.true w.if-accepts.true w.parent-is w.least-is | then-via-least+else-accepts w ↦ chooses_barred h s.requires.0 more long (node (goal.at.neighbours-preserved c).After-i-1) far w.accepts.ensures w.if-via-least.true w.if-accepts.false w.parent-is w.least-is | else-via-least w ↦ chooses_dear h s.requires.0 more long (node (goal.at.neighbours-preserved c).After-i-1) far w.if-via-least.false w.parent-is w.least-is ]
+pub loop-i-preserved : goal.loop-i-preserved
+loop-i-preserved c =
+    let room = roomy (goal.at.loop-i-preserved c).After-distance in
+    let turn = choice_turn _ _ _ _ _ _ _ room _ _ _ (c.requires.2 _ 0 c.loop-i-test.true) c.distance-in-loop-i.ensures _ 0 c.loop-i-test.true refl in
+    c.loop-i.invariant ∙ elim c.if-via-best.branch [
+      | then-via-best+then-check_motion w ↦ turn _ w.check_motion.ensures _ _ (rw (w.best-is, w.if-via-best.true, w.if-check_motion.true))
+      | else-via-best w ↦
+          elim w.else-via-best.branch [
+            | else-via-best-via-then-via-best+else-check_motion w' ↦ turn _ w'.check_motion.ensures _ _ (rw (w.best-is, w'.if-via-best.true, w'.if-check_motion.false))
+            | else-via-best-via-else-via-best w' ↦ turn _ refl _ _ (rw (w.best-is, w'.if-via-best.false))
+          ]
+    ]
 
 pub returns : goal.returns
-returns c = chooses_last c.neighbours.invariant c.neighbours-test.false
+returns c = sym (c.loop-i.invariant ∙ choice_end _ _ _ _ _ _ _ _ _ c.loop-i-test.false)
