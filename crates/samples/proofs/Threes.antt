@@ -1,13 +1,50 @@
 -- A list of samples read from the front, three numbers at a time.
-use Prim.Native.Nat.{ℕ, suc, ◌+◌, ◌≤◌, ◌<◌}
-use mathlib.Core.List.{List, [], ◌∷◌}
-use mathlib.Core.Path.{◌≡◌, refl}
-use native.Mathlib.Numerals.{add-one}
+use Prim.Native.Nat.{ℕ, suc, ◌+◌, ◌*◌, ◌/◌, ◌≤◌, ◌<◌}
+use mathlib.Core.List.{List, [], ◌∷◌, ◌++◌}
+use mathlib.Core.Path.{◌≡◌, refl, ◌∙◌, ap}
 use native.Mathlib.Omega.{arith}
-use lib.ListN.{length, drop, get_or, length-drop}
+use lib.ListN.{length, drop, get_or, length-append, length-drop}
 use lib.Seq.{drop-cons}
+use native.Mathlib.Numerals.{add-one}
 use lib.Ieee.{Float}
-use Rattle.samples.specs.Samples.{samples_of}
+use Rattle.samples.specs.Samples.{samples_of, sample_of}
+
+many : (n : ℕ) → suc (suc (suc n)) < 3 → ⊥
+many n h = omega arith
+
+-- the next sample, and those after it
+pub next_sample : (x rest : List Float) → length x ≡ 3 → samples_of (x ++ rest) ≡ sample_of x ∷ samples_of rest
+unfolding samples_of
+next_sample [] rest h = absurd (omega arith)
+next_sample (a ∷ []) rest h = absurd (omega arith)
+next_sample (a ∷ b ∷ []) rest h = absurd (omega arith)
+next_sample (a ∷ b ∷ c ∷ []) rest h = refl
+next_sample (a ∷ b ∷ c ∷ d ∷ x) rest h = absurd (omega arith)
+
+-- no sample is left
+pub no_sample : (xs : List Float) → length xs < 3 → samples_of xs ≡ []
+unfolding samples_of
+no_sample [] h = refl
+no_sample (x ∷ []) h = refl
+no_sample (x ∷ y ∷ []) h = refl
+no_sample (x ∷ y ∷ z ∷ xs) h = absurd (many (length xs) h)
+
+-- A walk in parts of `size` numbers has taken k samples of the list and has `rest` left.
+pub record Walked (list : List Float) (size k : ℕ) (rest : List Float) : Type 0 where
+  pub three : size ≡ 3
+  pub all : 3 * k + length rest ≡ length list
+
+pub walk_starts : (list : List Float) (size : ℕ) (rest : List Float) → size ≡ 3 → rest ≡ list → Walked list size 0 rest
+walk_starts list size rest e r = record { three = e; all = omega (arith, ap length r) }
+
+module _ (list : List Float) (size k : ℕ) (rest : List Float) (w : Walked list size k rest) where
+  -- x is the next part
+  pub walk_next : (x rest' : List Float) (size' k' : ℕ) → size' ≡ size → rest ≡ x ++ rest' → length x ≡ size → k' ≡ k + 1 → Walked list size' k' rest'
+  walk_next x rest' size' k' e r l q = record { three = e ∙ w.three; all = omega (arith, w.all, w.three, length-append x rest', ap length r) }
+
+  -- nothing that makes a sample is left
+  pub walk_ends : length rest < size → k ≡ length list / 3
+  walk_ends h = omega (arith, w.all, w.three)
 
 -- one element more of what is left, at `i + 1`
 pub more : (l : List Float) (i : ℕ) (d : Float) → i < length l → drop i l ≡ get_or l i d ∷ drop (i + 1) l
@@ -26,16 +63,6 @@ three l i a b c h =
     let q : i + 2 + 1 ≡ i + 3 = omega arith in
     rw (e₀, e₁, e₂, p, q)
 
-many : (n : ℕ) → suc (suc (suc n)) < 3 → ⊥
-many n h = omega arith
-
-short : (xs : List Float) → length xs < 3 → samples_of xs ≡ []
-unfolding samples_of
-short [] h = refl
-short (x ∷ []) h = refl
-short (x ∷ y ∷ []) h = refl
-short (x ∷ y ∷ z ∷ xs) h = absurd (many (length xs) h)
-
--- no sample is left
+-- where no sample is left at i
 pub fewer : (l : List Float) (i : ℕ) → length l < i + 3 → i ≤ length l → samples_of (drop i l) ≡ []
-fewer l i h k = short (drop i l) (omega (arith, length-drop i l))
+fewer l i h k = no_sample (drop i l) (omega (arith, length-drop i l))
