@@ -1,5 +1,5 @@
 -- How many nodes a table holds, and what stands at a number.
-use Prim.Native.Nat.{ℕ, ◌≤◌, ◌<◌}
+use Prim.Native.Nat.{ℕ, ◌≤◌, ◌<◌, min}
 use mathlib.Core.List.{List}
 use mathlib.Core.Path.{◌≡◌, refl, ◌∙◌}
 use native.Mathlib.Omega.{arith}
@@ -45,6 +45,11 @@ module _ (l : List Node) where
 pub states_few : (t : Tree) → length (states_of t) ≤ t.count
 unfolding states_of
 states_few t = let e = length-map (take t.count t.nodes) state_in in omega (arith, length-take t.count t.nodes)
+
+-- how many nodes there are, in the table's part up to a count that the table has places for
+pub nodes_many : (t : Tree) (n : ℕ) → length t.nodes ≡ 512 → n ≡ min t.count 512 → length (take n t.nodes) ≡ length (nodes_of t).states
+unfolding nodes_of nodes_in
+nodes_many t n sized e = let m = length-map (take t.count t.nodes) state_in in omega (arith, m, length-take t.count t.nodes, length-take n t.nodes)
 
 -- a table whose count it has places for
 module _ (t : Tree) (room : t.count ≤ length t.nodes) where

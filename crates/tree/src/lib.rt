@@ -1,7 +1,7 @@
 // A tree of states in a table, read by index. A planner lends its tree to what only reads it, and appends in place.
 #![tactic(auto)]
 
-ghost use Rattle.std.specs.Prelude.{◌≡◌, ◌<◌, take};
+ghost use Rattle.std.specs.Prelude.{◌≡◌, ◌<◌, length, take};
 ghost use Rattle.tree.specs.Table.{nodes_of, node_at_of, rooted_of, none_of, pushed_of};
 
 use state::State;
@@ -72,6 +72,14 @@ impl Tree {
     {
         let count = self.count.min(Tree::MOST);
         &self.nodes[..count]
+    }
+
+    // How many nodes there are. A caller learns besides how many places the table has.
+    pub fn len(&self) -> usize
+        ensures nodes { result ≡ length (nodes_of self.now).states }
+        ensures sized { length self.now.nodes ≡ 512 }
+    {
+        self.nodes[..self.count.min(Tree::MOST)].len()
     }
 
     // One node more, in the next place.
