@@ -1,88 +1,60 @@
 -- The three ends of a step, from what the code has of it.
-use Prim.Native.Nat.{ℕ, ◌+◌, ◌≤◌, ◌<◌}
-use mathlib.Core.Bool.{true, false}
+use Prim.Native.Nat.{ℕ, ◌≤◌, ◌<◌}
+use mathlib.Core.Bool.{true, false, not}
 use mathlib.Core.List.{List}
-use mathlib.Core.Path.{◌≡◌, refl, ◌∙◌, ap}
+use mathlib.Core.Path.{◌≡◌, ◌∙◌, ap}
 use native.Mathlib.Omega.{arith}
 use borrow.Author.Tests.{lt-ltb, le-ltb}
-use lib.ListN.{length, set, length-set}
+use lib.ListN.{length}
 use lib.Ieee.{Float}
 use Rattle.state.specs.declared.State.{State}
 use Rattle.fields.specs.declared.Limits.{Limits}
 use Rattle.keep_out.specs.declared.KeepOut.{KeepOut}
-use Rattle.tree.specs.Table.{Nodes, states_of, nodes_in, nodes_of, grown_of}
+use Rattle.tree.specs.Table.{nodes_of, states_of, pushed_of}
+use Rattle.tree.specs.declared.Tree.{Tree}
+use Rattle.tree.proofs.Nodes.{nodes_length, states_are}
+use Rattle.tree.proofs.Push.{push_grows}
 use Rattle.step.specs.Step.{step_of}
 use Rattle.step.specs.declared.Stepped.{Stepped}
-use Rattle.tree.specs.declared.Tree.{Tree}
-use Rattle.tree.proofs.Append.{states_length, put_grows}
 use Rattle.extend.specs.declared.Verdict.{Verdict}
 use Rattle.extend.specs.declared.Verdict.TheVariants.{Refused, Full, Added}
-use Rattle.extend.specs.Extend.{Grown, after_step, extend_of, Sized, Extends}
+use Rattle.extend.specs.Extend.{after_step, extend_of, grown_with, Extends}
 
-module _ (limits : Limits) (segment : Float) (ks : List KeepOut) (max : Float) (az el feed : List Float) (parent : List ℕ) (n : ℕ) (some : 0 < n)
-    (room : n ≤ 512) (sized : Sized az el feed parent) (target : State) (e : Stepped)
-    (is : e ≡ step_of limits segment ks max (states_of n az el feed) target) where
-  abbrev nodes : Nodes
-  nodes = nodes_in n az el feed parent
+-- a tree, and its step toward a target
+module _ (limits : Limits) (segment : Float) (ks : List KeepOut) (max : Float) (t : Tree) (target : State) (e : Stepped)
+    (asked : (0 < t.count) × (t.count ≤ 512)) (is : e ≡ step_of limits segment ks max (states_of t) target) where
+  -- the step was made, and then the tree is t'
+  abbrev Made : Tree → Verdict → Type 0
+  Made t' v = Extends limits segment ks max (nodes_of t) target (record { verdict = v; at = e.at; reached = e.reached }) t'
 
-  abbrev table : Tree
-  table = record { az = az; el = el; feed = feed; parent = parent; count = n }
+  made : (t' : Tree) (v : Verdict) → 0 < t'.count → t'.count ≤ 512 → grown_with t' (record { verdict = v; at = e.at; reached = e.reached }) ≡ after_step (nodes_of t) e → Made t' v
+  made t' v h l g = record { is = g ∙ whole; some = h; room = l }
+    where
+      whole : after_step (nodes_of t) e ≡ extend_of limits segment ks max (nodes_of t) target
+      whole = unfold extend_of in ap (after_step (nodes_of t)) (is ∙ rw (states_are t))
 
-  many : length nodes.states ≡ n
-  unfolding nodes_in
-  many = states_length az el feed n room
+  pub refused : not e.accepted ≡ true → Made t Refused
+  refused h = made t Refused asked.0 asked.1 (unfold after_step in rw no)
+    where
+      no : e.accepted ≡ false
+      no = grind arith
 
-  stepped : e ≡ step_of limits segment ks max nodes.states target
-  unfolding nodes_in
-  stepped = is
+  -- whether there is room is told by how many nodes it has
+  module _ (size : ℕ) (many : size ≡ length (nodes_of t).states) (h : not e.accepted ≡ false) where
+    yes : e.accepted ≡ true
+    yes = grind arith
 
-  whole : after_step nodes e ≡ extend_of limits segment ks max nodes target
-  unfolding extend_of
-  whole = ap (after_step nodes) stepped
+    pub full : 512 ≤ size → Made t Full
+    full l = made t Full asked.0 asked.1 (unfold after_step in rw (yes, ← many, le-ltb size 512 l))
 
-  abbrev made : Nodes → Verdict → Grown
-  made tree v = record { nodes = tree; verdict = v; at = e.at; reached = e.reached }
+    module _ (sized : length t.nodes ≡ 512) (l : size < 512) where
+      -- the count is below the table's places
+      pub low : t.count < 512
+      low = omega (arith, many, nodes_length t (omega (arith, sized)))
 
-  as_refused : e.accepted ≡ false → made nodes Refused ≡ after_step nodes e
-  unfolding after_step
-  as_refused h = rw h
-
-  as_full : e.accepted ≡ true → 512 ≤ length nodes.states → made nodes Full ≡ after_step nodes e
-  unfolding after_step
-  as_full h l = rw (h, le-ltb (length nodes.states) 512 l)
-
-  as_added : e.accepted ≡ true → length nodes.states < 512 → made (grown_of nodes e.at e.parent) Added ≡ after_step nodes e
-  unfolding after_step
-  as_added h l = rw (h, lt-ltb (length nodes.states) 512 l)
-
-  grows :
-      n < 512 →
-      nodes_in (n + 1) (set az n e.at.az) (set el n e.at.el) (set feed n e.at.feed) (set parent n e.parent) ≡ grown_of nodes e.at e.parent
-  unfolding nodes_of
-  grows h = put_grows table e.at e.parent h sized
-
-  pub refused : e.accepted ≡ false → Extends limits segment ks max nodes target (record { verdict = Refused; at = e.at; reached = e.reached; count = n }) az el feed parent
-  refused h =
-      record { grown = made nodes Refused; is = as_refused h ∙ whole; tree = refl; verdict = refl; at = refl; reached = refl; some = some; room = room; sized = sized }
-
-  module _ (yes : e.accepted ≡ true) where
-    pub full : 512 ≤ n → Extends limits segment ks max nodes target (record { verdict = Full; at = e.at; reached = e.reached; count = n }) az el feed parent
-    full h =
-        record { grown = made nodes Full; is = as_full yes (omega (arith, many)) ∙ whole; tree = refl; verdict = refl; at = refl; reached = refl; some = some; room = room; sized = sized }
-
-    pub added :
-        n < 512 →
-        Extends limits segment ks max nodes target (record { verdict = Added; at = e.at; reached = e.reached; count = n + 1 }) (set az n e.at.az) (set el n e.at.el)
-        (set feed n e.at.feed) (set parent n e.parent)
-    added h =
-        record {
-          grown = made (grown_of nodes e.at e.parent) Added;
-          is = as_added yes (omega (arith, many)) ∙ whole;
-          tree = grows h;
-          verdict = refl;
-          at = refl;
-          reached = refl;
-          some = omega arith;
-          room = omega arith;
-          sized = (simp length-set sized.0, simp length-set sized.1, simp length-set sized.2, simp length-set sized.3);
-        }
+      pub added : Made (pushed_of t e.at e.parent) Added
+      added =
+          let few = low in
+          let is : grown_with (pushed_of t e.at e.parent) (record { verdict = Added; at = e.at; reached = e.reached }) ≡ after_step (nodes_of t) e =
+          unfold after_step in rw (yes, ← many, lt-ltb size 512 l, push_grows t e.at e.parent (omega (arith, sized))) in
+          made (pushed_of t e.at e.parent) Added (unfold pushed_of in omega arith) (unfold pushed_of in omega arith) is

@@ -1,9 +1,10 @@
 -- Document 01, "Tree step" with its append: an accepted state is appended under the nearest node, unless it would be node 513.
-use Rattle.std.specs.Prelude.{ℕ, ◌≤◌, ◌<◌, Bool, cond, List, ◌≡◌, ltb, length, Float}
+use Rattle.std.specs.Prelude.{◌≤◌, ◌<◌, Bool, cond, List, ◌≡◌, ltb, length, Float}
 use Rattle.state.specs.declared.State.{State}
 use Rattle.fields.specs.declared.Limits.{Limits}
 use Rattle.keep_out.specs.declared.KeepOut.{KeepOut}
-use Rattle.tree.specs.Table.{Nodes, nodes_in, grown_of}
+use Rattle.tree.specs.Table.{Nodes, nodes_of, grown_of}
+use Rattle.tree.specs.declared.Tree.{Tree}
 use Rattle.step.specs.Step.{step_of}
 use Rattle.step.specs.declared.Stepped.{Stepped}
 use Rattle.extend.specs.declared.Verdict.{Verdict}
@@ -27,19 +28,12 @@ after_step nodes e =
 unfoldable pub extend_of : Limits → Float → List KeepOut → Float → Nodes → State → Grown
 extend_of limits segment ks max nodes target = after_step nodes (step_of limits segment ks max nodes.states target)
 
--- columns of 512 places
-abbrev pub Sized : List Float → List Float → List Float → List ℕ → Type 0
-Sized az el feed parent = (length az ≡ 512) × (length el ≡ 512) × (length feed ≡ 512) × (length parent ≡ 512)
+-- what the code's step gives, with the tree at exit
+abbrev pub grown_with : Tree → Extended → Grown
+grown_with t r = record { nodes = nodes_of t; verdict = r.verdict; at = r.at; reached = r.reached }
 
--- what the code's step gives, and the columns at exit
-pub record Extends (limits : Limits) (segment : Float) (ks : List KeepOut) (max : Float) (nodes : Nodes) (target : State) (r : Extended)
-    (az el feed : List Float) (parent : List ℕ) : Type 0 where
-  pub grown : Grown
-  pub is : grown ≡ extend_of limits segment ks max nodes target
-  pub tree : nodes_in r.count az el feed parent ≡ grown.nodes
-  pub verdict : r.verdict ≡ grown.verdict
-  pub at : r.at ≡ grown.at
-  pub reached : r.reached ≡ grown.reached
-  pub some : 0 < r.count
-  pub room : r.count ≤ 512
-  pub sized : Sized az el feed parent
+-- the step was made, and the tree has at least a root and at most 512 nodes
+pub record Extends (limits : Limits) (segment : Float) (ks : List KeepOut) (max : Float) (nodes : Nodes) (target : State) (r : Extended) (t : Tree) : Type 0 where
+  pub is : grown_with t r ≡ extend_of limits segment ks max nodes target
+  pub some : 0 < t.count
+  pub room : t.count ≤ 512

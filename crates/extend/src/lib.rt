@@ -2,11 +2,11 @@
 #![tactic(auto)]
 
 ghost use Rattle.std.specs.Prelude.{◌≤◌, ◌<◌};
-ghost use Rattle.columns.specs.Columns.{columns_of};
-ghost use Rattle.tree.specs.Table.{nodes_in};
-ghost use Rattle.extend.specs.Extend.{Sized, Extends};
+ghost use Rattle.keep_out_table.specs.Table.{keep_outs_of};
+ghost use Rattle.tree.specs.Table.{nodes_of};
+ghost use Rattle.extend.specs.Extend.{Extends};
 
-use fields::Limits;
+use mount::Mount;
 use state::State;
 use tree::Tree;
 
@@ -26,66 +26,26 @@ pub struct Extended {
     // The new state, and whether that is the target itself.
     pub at: State,
     pub reached: bool,
-    // How many nodes the tree has then.
-    pub count: usize,
 }
 
 // One tree step toward a target; an accepted node is appended in place, where the tree has room for it.
-pub fn extend<'a>(
-    az: &mut [f64; 512],
-    el: &mut [f64; 512],
-    feed: &mut [f64; 512],
-    parent: &mut [usize; 512],
-    n: usize,
-    limits: Limits,
-    segment: f64,
-    kinds: &'a [u8; 32],
-    numbers: &'a [f64; 192],
-    keep_outs: usize,
-    max_distance: f64,
-    target: State,
-) -> Extended
-    requires { (0 < n) × (n ≤ 512) × Sized az.old el.old feed.old parent.old }
-    ensures { Extends limits segment (columns_of kinds.now numbers.now keep_outs) max_distance (nodes_in n az.old el.old feed.old parent.old) target result az.new el.new feed.new parent.new }
+pub fn extend(tree: &mut Tree, mount: &Mount, max_distance: f64, target: State) -> Extended
+    requires { (0 < tree.old.count) × (tree.old.count ≤ 512) }
+    ensures { Extends mount.now.limits mount.now.segment.value (keep_outs_of mount.now.table) max_distance (nodes_of tree.old) target result tree.new }
 {
-    let e = step::step(
-        az,
-        el,
-        feed,
-        n,
-        limits,
-        segment,
-        kinds,
-        numbers,
-        keep_outs,
-        max_distance,
-        target,
-    );
-    let s = e.at;
-    if e.accepted {
-        if n < Tree::MOST {
-            az[n] = s.az;
-            el[n] = s.el;
-            feed[n] = s.feed;
-            parent[n] = e.parent;
-            return Extended {
-                verdict: Verdict::Added,
-                at: s,
-                reached: e.reached,
-                count: n + 1,
-            };
-        }
-        return Extended {
-            verdict: Verdict::Full,
-            at: s,
-            reached: e.reached,
-            count: n,
-        };
-    }
+    let e = step::step(tree, mount, max_distance, target);
+    let room = tree.len() < Tree::MOST;
+    let verdict = if !e.accepted {
+        Verdict::Refused
+    } else if room {
+        tree.push(e.at, e.parent);
+        Verdict::Added
+    } else {
+        Verdict::Full
+    };
     Extended {
-        verdict: Verdict::Refused,
-        at: s,
+        verdict,
+        at: e.at,
         reached: e.reached,
-        count: n,
     }
 }

@@ -1,14 +1,14 @@
-use Rattle.extend.proofs.Extends.{refused, full, added}
+use Rattle.extend.proofs.Extends.{refused, full, low, added}
 use Rattle.extend.proofs.extend.Goals as goal
+use Rattle.extend.proofs.extend.Goals.{then-not-e, else-not-e+then-room, else-not-e+else-room}
 
-pub returns-then-n-lt-MOST : goal.returns-then-n-lt-MOST
-returns-then-n-lt-MOST c =
-    added _ _ _ _ _ _ _ _ _ c.requires.0 c.requires.1 c.requires.2 _ c.step-e.result c.step-e.ensures c.if-e.true c.if-n-lt-MOST.true
-
-pub returns-then-e : goal.returns-then-e
-returns-then-e c =
-    full _ _ _ _ _ _ _ _ _ c.requires.0 c.requires.1 c.requires.2 _ c.step-e.result c.step-e.ensures c.if-e.true c.if-n-lt-MOST.false
+pub push-requires : goal.push-requires
+push-requires c = low _ _ _ _ _ _ _ c.requires c.step-e.ensures _ c.len-room.ensures.nodes c.if-not-e.false c.len-room.ensures.sized c.if-room.true
 
 pub returns : goal.returns
 returns c =
-    refused _ _ _ _ _ _ _ _ _ c.requires.0 c.requires.1 c.requires.2 _ c.step-e.result c.step-e.ensures c.if-e.false
+    elim c.if-not-e.branch [
+      | then-not-e w ↦ rw (w.tree-is, w.verdict-is) (refused _ _ _ _ _ _ _ c.requires c.step-e.ensures w.if-not-e.true)
+      | else-not-e+then-room w ↦ rw (w.tree-is, w.verdict-is, w.push.ensures) (added _ _ _ _ _ _ _ c.requires c.step-e.ensures _ c.len-room.ensures.nodes w.if-not-e.false c.len-room.ensures.sized w.if-room.true)
+      | else-not-e+else-room w ↦ rw (w.tree-is, w.verdict-is) (full _ _ _ _ _ _ _ c.requires c.step-e.ensures _ c.len-room.ensures.nodes w.if-not-e.false w.if-room.false)
+    ]
