@@ -1,126 +1,109 @@
 -- What one turn of construction does to its definition. Validity and the test for a leg stay names here.
-use Prim.Native.Nat.{ℕ, ◌+◌, ◌≤◌, ◌<◌}
+use Prim.Native.Nat.{ℕ, ◌+◌, ◌*◌, ◌≤◌, ◌<◌, min}
 use mathlib.Core.Bool.{Bool, true, false}
 use mathlib.Core.List.{List, [], ◌∷◌}
 use mathlib.Core.Path.{◌≡◌, sym, ◌∙◌, ap}
 use native.Mathlib.Omega.{arith}
 use borrow.Author.Tests.{lt-ltb, le-ltb, eq-eqb, ne_eqb}
-use lib.ListN.{length, drop, get_or, set, length-set}
+use lib.ListN.{length, drop, get_or, take}
+use lib.Seq.{length-take-le}
 use lib.Ieee.{Float, nan}
 use Rattle.answer.specs.declared.Answer.TheVariants.{Done, Full}
+use Rattle.state.specs.Rows.{state_at}
 use Rattle.state.specs.declared.State.{State}
 use Rattle.fields.specs.declared.Limits.{Limits}
 use Rattle.keep_out.specs.declared.KeepOut.{KeepOut}
 use Rattle.motion.specs.Valid.{valid_of}
 use Rattle.samples.specs.Samples.{samples_of}
 use Rattle.samples.proofs.Threes.{three, fewer}
-use Rattle.roadmap.specs.Map.{Milestone}
+use Rattle.roadmap.specs.Map.{Milestone, add_of, flags_of}
+use Rattle.roadmap.specs.View.{milestones_of, pushed_of, Clean, Joins}
+use Rattle.roadmap.specs.declared.Roadmap.{Roadmap}
+use Rattle.roadmap.proofs.View.{view_long, flags_held, milestones_long}
+use Rattle.roadmap.proofs.Grows.{push_add, push_clean, push_sized, push_room}
 use Rattle.construct.specs.Construct.{Constructed, joined_of, run_of, construct_of}
-use Rattle.state.specs.Rows.{row_at}
-use Rattle.roadmap.specs.View.{view_of, Clean, Joins}
-use Rattle.roadmap.proofs.View.{view_long, view_flags}
-use Rattle.roadmap.proofs.Grows.{view_add, clean_add}
 
 module _ (limits : Limits) (segment : Float) (ks : List KeepOut) (radius : Float) where
   abbrev pub run : List Milestone → ℕ → List State → Constructed
   run ms taken ss = run_of limits segment ks radius ms taken ss
 
-  module _ (az el feed : List Float) (legs : List ℕ) (n : ℕ) where
-    abbrev pub here : List Milestone
-    here = view_of az el feed legs n
+  -- on a roadmap that is empty construction is the run, and on another it is done
+  pub construct_none : (m : Roadmap) (ss : List State) → m.count ≡ 0 → construct_of limits segment ks radius (milestones_of m) ss ≡ run [] 0 ss
+  unfolding construct_of
+  construct_none m ss e = let none = milestones_long m (omega arith) in rw (eq-eqb (length (milestones_of m)) 0 (none ∙ e))
 
-    -- on a roadmap that is empty construction is the run, and on another it is done
-    pub construct_none : (ss : List State) → n ≡ 0 → construct_of limits segment ks radius here ss ≡ run [] 0 ss
-    unfolding construct_of
-    construct_none ss e = rw (view_long az el feed legs n, eq-eqb n 0 e)
+  pub construct_some :
+      (m : Roadmap) (ss : List State) → (m.count ≡ 0 → ⊥) → construct_of limits segment ks radius (milestones_of m) ss ≡ record { map = milestones_of m; answer = Done; taken = 0 }
+  unfolding construct_of milestones_of
+  construct_some m ss e = rw (view_long m.milestones m.legs (min m.count 256), ne_eqb (min m.count 256) 0 (λ z. e (omega arith)))
 
-    pub construct_some : (ss : List State) → (n ≡ 0 → ⊥) → construct_of limits segment ks radius here ss ≡ record { map = here; answer = Done; taken = 0 }
-    unfolding construct_of
-    construct_some ss e = rw (view_long az el feed legs n, ne_eqb n 0 e)
+  -- a valid sample, where there is a place left
+  run_added :
+      (ms : List Milestone) (taken : ℕ) (s : State) (ss : List State) → valid_of limits ks s ≡ true → length ms < 256 →
+      run ms taken (s ∷ ss) ≡ run (add_of ms s (flags_of (joined_of limits segment ks radius) ms s)) (taken + 1) ss
+  unfolding run_of
+  run_added ms taken s ss e k = rw (e, lt-ltb (length ms) 256 k)
 
-  -- what holds when the sample at `at` is reached: the run so far has come to this table, with `taken` samples
-  pub record Building (l az el feed : List Float) (legs : List ℕ) (n at taken : ℕ) : Type 0 where
-    pub within : at ≤ length l
-    pub few : taken ≤ at
-    pub room : n ≤ 256
-    pub az_sized : length az ≡ 256
-    pub el_sized : length el ≡ 256
-    pub feed_sized : length feed ≡ 256
-    pub legs_sized : length legs ≡ 1024
+  -- what holds when so many samples are taken: the run so far has come to this roadmap
+  pub record Building (l : List Float) (m : Roadmap) (taken : ℕ) : Type 0 where
+    pub room : m.count ≤ 256
+    pub sized : length m.milestones ≡ 256
     -- no leg beyond the milestones
-    pub clean : Clean legs n
-    pub is : run [] 0 (samples_of l) ≡ run (view_of az el feed legs n) taken (samples_of (drop at l))
+    pub clean : Clean m.legs m.count
+    pub is : run [] 0 (samples_of l) ≡ run (milestones_of m) taken (samples_of (drop (3 * taken) l))
 
-module _ {limits : Limits} {segment : Float} {ks : List KeepOut} {radius : Float} {l az el feed : List Float} {legs : List ℕ} {n at taken : ℕ}
-    (h : Building limits segment ks radius l az el feed legs n at taken) where
+module _ {limits : Limits} {segment : Float} {ks : List KeepOut} {radius : Float} {l : List Float} {m : Roadmap} {taken : ℕ} (h : Building limits segment ks radius l m taken) where
   abbrev from : List Milestone → ℕ → List State → Constructed
   from = run limits segment ks radius
-
-  abbrev table : List Milestone
-  table = view_of az el feed legs n
 
   abbrev whole : Constructed
   whole = from [] 0 (samples_of l)
 
   -- the list is used up
-  pub build_ends : length l < at + 3 → whole ≡ record { map = table; answer = Done; taken = taken }
+  pub build_ends : 3 * taken ≤ length l → length l < 3 * taken + 3 → whole ≡ record { map = milestones_of m; answer = Done; taken = taken }
   unfolding run_of
-  build_ends e = h.is ∙ ap (from table taken) (fewer l at e h.within)
+  build_ends k e = h.is ∙ ap (from (milestones_of m) taken) (fewer l (3 * taken) e k)
 
-  module _ (more : at + 3 ≤ length l) where
+  module _ (more : 3 * taken + 3 ≤ length l) where
     abbrev sample : State
-    sample = record { az = get_or l at nan; el = get_or l (at + 1) nan; feed = get_or l (at + 2) nan }
+    sample = record { az = get_or l (3 * taken) nan; el = get_or l (3 * taken + 1) nan; feed = get_or l (3 * taken + 2) nan }
+
+    abbrev earlier : List State
+    earlier = take m.count m.milestones
 
     abbrev later : List State
-    later = samples_of (drop (at + 3) l)
+    later = samples_of (drop (3 * (taken + 1)) l)
 
-    turn : whole ≡ from table taken (sample ∷ later)
-    turn = h.is ∙ ap (from table taken) (three l at nan nan nan more)
+    turn : whole ≡ from (milestones_of m) taken (sample ∷ later)
+    turn =
+        let e : 3 * (taken + 1) ≡ 3 * taken + 3 = omega arith in
+        rw e (h.is ∙ ap (from (milestones_of m) taken) (three l (3 * taken) nan nan nan more))
 
     module _ {valid : Bool} (tested : valid ≡ valid_of limits ks sample) where
-      pub build_full : valid ≡ true → 256 ≤ n → whole ≡ record { map = []; answer = Full; taken = taken + 1 }
-      build_full e k = turn ∙ (unfold run_of in rw (← tested, e, view_long az el feed legs n, le-ltb n 256 k))
+      pub build_full : valid ≡ true → m.count ≡ 256 → whole ≡ record { map = []; answer = Full; taken = taken + 1 }
+      build_full e k = turn ∙ (unfold run_of in rw (← tested, e, milestones_long m h.room, le-ltb m.count 256 (omega arith)))
 
-      module _ {az' el' feed' : List Float} {legs' : List ℕ} {n' : ℕ} where
-        -- a sample that is not valid changes nothing
-        pub build_passed :
-            valid ≡ false → az' ≡ az → el' ≡ el → feed' ≡ feed → legs' ≡ legs → n' ≡ n →
-            Building limits segment ks radius l az' el' feed' legs' n' (at + 3) (taken + 1)
-        build_passed e p q r u v =
-            rw (p, q, r, u, v)
-            record {
-              within = more;
-              few = omega (arith, h.few);
-              room = h.room;
-              az_sized = h.az_sized;
-              el_sized = h.el_sized;
-              feed_sized = h.feed_sized;
-              legs_sized = h.legs_sized;
-              clean = h.clean;
-              is = turn ∙ (unfold run_of in rw (← tested, e));
-            }
+      -- a sample that is not valid changes nothing
+      pub build_passed : valid ≡ false → Building limits segment ks radius l m (taken + 1)
+      build_passed e = record { room = h.room; sized = h.sized; clean = h.clean; is = turn ∙ (unfold run_of in rw (← tested, e)) }
 
-        -- a valid one becomes a milestone, joined to those that it reaches
-        pub build_added :
-            valid ≡ true → n < 256 → Joins legs n n (λ (j : ℕ). joined_of limits segment ks radius sample (row_at az el feed j)) legs' →
-            az' ≡ set az n sample.az → el' ≡ set el n sample.el → feed' ≡ set feed n sample.feed → n' ≡ n + 1 →
-            Building limits segment ks radius l az' el' feed' legs' n' (at + 3) (taken + 1)
-        build_added e k joins p q r v =
-            let reached : ℕ → Bool = λ j. joined_of limits segment ks radius sample (row_at az el feed j) in
-            let grows = view_add az el feed legs n reached legs' sample h.az_sized h.el_sized h.feed_sized k h.clean joins in
-            let flags = view_flags az el feed legs n (joined_of limits segment ks radius) sample in
-            rw (p, q, r, v)
-            record {
-              within = more;
-              few = omega (arith, h.few);
-              room = omega arith;
-              az_sized = length-set az n sample.az ∙ h.az_sized;
-              el_sized = length-set el n sample.el ∙ h.el_sized;
-              feed_sized = length-set feed n sample.feed ∙ h.feed_sized;
-              legs_sized = joins.long ∙ h.legs_sized;
-              clean = clean_add az el feed legs n _ legs' sample h.az_sized h.el_sized h.feed_sized k h.clean joins;
-              is =
-                  turn
-                  ∙ (unfold run_of in
-                  rw (← tested, e, view_long az el feed legs n, lt-ltb n 256 k, flags) (ap (λ (ms : List Milestone). from ms (taken + 1) later) (sym grows)));
-            }
+      -- a valid one becomes a milestone, joined to those that it reaches
+      pub build_added :
+          (legs : List ℕ) → valid ≡ true → m.count < 256 →
+          Joins m.legs (length earlier) (length earlier) (λ (j : ℕ). joined_of limits segment ks radius sample (state_at earlier j)) legs →
+          Building limits segment ks radius l (pushed_of (record { milestones = m.milestones; legs = legs; count = m.count }) sample) (taken + 1)
+      build_added legs e k new =
+          let reached : ℕ → Bool = λ j. joined_of limits segment ks radius sample (state_at earlier j) in
+          let many : length earlier ≡ m.count = length-take-le m.count m.milestones (omega (arith, h.sized)) in
+          let joins = rw many at new in
+          let grows = push_add m reached legs sample k h.sized h.clean joins in
+          let flags = flags_held (joined_of limits segment ks radius) m sample h.room in
+          record {
+            room = push_room m reached legs sample k h.sized h.clean joins;
+            sized = push_sized m reached legs sample k h.sized h.clean joins;
+            clean = push_clean m reached legs sample k h.sized h.clean joins;
+            is =
+                turn ∙ run_added limits segment ks radius (milestones_of m) taken sample later (sym tested ∙ e) (rw (milestones_long m h.room) k)
+                ∙ ap (λ (fs : List Bool). from (add_of (milestones_of m) sample fs) (taken + 1) later) flags
+                ∙ ap (λ (ms : List Milestone). from ms (taken + 1) later) (sym grows);
+          }

@@ -14,6 +14,7 @@ use Rattle.motion.specs.Valid.{valid_of}
 use Rattle.motion.specs.Accepts.{accepts_of}
 use Rattle.roadmap.specs.Map.{Milestone, add_of, flags_of}
 use Rattle.roadmap.specs.View.{milestones_of}
+use Rattle.roadmap.specs.declared.Roadmap.{Roadmap}
 use Rattle.construct.specs.declared.Built.{Built}
 
 -- strictly inside the radius, and the motion from the new one to the earlier is accepted
@@ -42,6 +43,6 @@ construct_of limits segment ks radius ms samples =
     let run = run_of limits segment ks radius [] 0 samples in
     cond (eqb (length ms) 0) run (record { map = ms; answer = Done; taken = 0 })
 
--- what a construction gave to its caller
-abbrev pub built_of : Built → Constructed
-built_of r = record { map = milestones_of r.map; answer = r.answer; taken = r.taken }
+-- what a construction gave to its caller: the roadmap that it left, and what it answered
+abbrev pub built_of : Roadmap → Built → Constructed
+built_of m r = record { map = milestones_of m; answer = r.answer; taken = r.taken }

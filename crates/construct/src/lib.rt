@@ -3,17 +3,12 @@
 
 ghost use Rattle.std.specs.Prelude.{◌≡◌, ℕ, ◌<◌, length};
 ghost use Rattle.keep_out_table.specs.Table.{keep_outs_of};
-ghost use Rattle.columns.specs.Columns.{columns_of};
-ghost use Rattle.motion.specs.Valid.{valid_of};
 ghost use Rattle.samples.specs.Samples.{samples_of};
-ghost use Rattle.state.specs.Rows.{row_at};
+ghost use Rattle.state.specs.Rows.{state_at};
 ghost use Rattle.roadmap.specs.View.{milestones_of, Joins};
 ghost use Rattle.construct.specs.Construct.{joined_of, construct_of, built_of};
 
 use answer::Answer;
-use columns::Columns;
-use fields::Limits;
-use keep_out_table::KeepOuts;
 use mount::Mount;
 use roadmap::Roadmap;
 use state::State;
@@ -21,142 +16,69 @@ use state::State;
 // How a construction ended.
 #[derive(Clone, Copy)]
 pub struct Built {
-    pub map: Roadmap,
     pub answer: Answer,
     // The samples taken.
     pub taken: usize,
 }
 
-// Within the limits, and covered by no keep-out, over keep-outs that are lent as columns.
-fn is_valid<'a>(
-    limits: Limits,
-    kinds: &'a [u8; 32],
-    numbers: &'a [f64; 192],
-    keep_outs: usize,
-    s: State,
-) -> bool
-    ensures { result ≡ valid_of limits (columns_of kinds.now numbers.now keep_outs) s }
+// Whether one state is reached from another: strictly inside the radius, by an accepted motion.
+#[tactic(auto, unfolding(crate::specs::Construct::joined_of))]
+pub fn reaches(mount: &Mount, radius: f64, from: State, to: State) -> bool
+    ensures { result ≡ joined_of mount.now.limits mount.now.segment.value (keep_outs_of mount.now.table) radius from to }
 {
-    let rows = KeepOuts::rows_of(keep_outs);
-    if s.within(limits.low, limits.high) {
-        let mut j: usize = 0;
-        'keep_outs: while j < rows {
-            let k = columns::keep_out_at(kinds, numbers, j);
-            if k.covers(s) {
-                return false;
-            }
-            j += 1;
-        }
-        return true;
-    }
-    false
+    from.distance(to) < radius && mount.check_motion(from, to)
 }
 
-// Joins a new milestone, the n-th, to each earlier one that it reaches.
-fn join_earlier<'a>(
-    limits: Limits,
-    segment: f64,
-    kinds: &'a [u8; 32],
-    numbers: &'a [f64; 192],
-    keep_outs: usize,
-    radius: f64,
-    new: State,
-    az: &'a [f64; 256],
-    el: &'a [f64; 256],
-    feed: &'a [f64; 256],
-    n: usize,
-    legs: &mut [u64; 1024],
-)
-    requires { (n < 256) × (length legs.old ≡ 1024) }
-    ensures { Joins legs.old n n (λ (j : ℕ). joined_of limits segment (columns_of kinds.now numbers.now keep_outs) radius new (row_at az.now el.now feed.now j)) legs.new }
+// Joins a new milestone, which comes after the earlier ones, to each of those that it reaches.
+fn join_earlier(legs: &mut [u64; 1024], earlier: &[State], mount: &Mount, radius: f64, new: State)
+    requires { length earlier.now < 256 }
+    ensures { Joins legs.old (length earlier.now) (length earlier.now) (λ (j : ℕ). joined_of mount.now.limits mount.now.segment.value (keep_outs_of mount.now.table) radius new (state_at earlier.now j)) legs.new }
 {
-    let mut j: usize = 0;
-    'earlier: while j < n {
-        let earlier = State {
-            az: az[j],
-            el: el[j],
-            feed: feed[j],
-        };
-        if new.distance(earlier) < radius {
-            if motion::accepts(limits, segment, kinds, numbers, keep_outs, new, earlier) {
-                legs::link(legs, n, j);
-            }
+    for (j, milestone) in earlier.iter().enumerate() {
+        if reaches(mount, radius, new, *milestone) {
+            legs::link(legs, earlier.len(), j);
         }
-        j += 1;
     }
 }
 
 // Each valid sample becomes a milestone, joined to the earlier ones that it reaches. A roadmap that is not empty stays as it is.
-pub fn construct(mount: Mount, radius: f64, map: Roadmap, samples: &[f64]) -> Built
-    ensures { built_of result ≡ construct_of mount.limits mount.segment.value (keep_outs_of mount.table) radius (milestones_of map) (samples_of samples.now) }
+pub fn construct(map: &mut Roadmap, mount: &Mount, radius: f64, samples: &[f64]) -> Built
+    ensures { built_of map.new result ≡ construct_of mount.now.limits mount.now.segment.value (keep_outs_of mount.now.table) radius (milestones_of map.old) (samples_of samples.now) }
 {
-    let held = map.count;
-    if held != 0 {
+    if map.count != 0 {
         return Built {
-            map,
             answer: Answer::Done,
             taken: 0,
         };
     }
-    let limits = mount.limits;
-    let segment = mount.segment.value;
-    let columns = Columns::of(mount.table);
-    let rows = columns.count;
-    let mut az: [f64; 256] = [0.0; 256];
-    let mut el: [f64; 256] = [0.0; 256];
-    let mut feed: [f64; 256] = [0.0; 256];
-    let mut legs: [u64; 1024] = [0; 1024];
-    let mut count: usize = 0;
-    let mut at: usize = 0;
-    let mut taken: usize = 0;
-    'samples: while samples.len() - at >= 3 {
+    *map = Roadmap::empty();
+    let many = samples.len() / 3;
+    for at in 0..many {
         let s = State {
-            az: samples[at],
-            el: samples[at + 1],
-            feed: samples[at + 2],
+            az: samples[3 * at],
+            el: samples[3 * at + 1],
+            feed: samples[3 * at + 2],
         };
-        taken += 1;
-        if is_valid(limits, &columns.kinds, &columns.numbers, rows, s) {
-            if count < Roadmap::MOST {
-                join_earlier(
-                    limits,
-                    segment,
-                    &columns.kinds,
-                    &columns.numbers,
-                    rows,
-                    radius,
-                    s,
-                    &az,
-                    &el,
-                    &feed,
-                    count,
-                    &mut legs,
-                );
-                az[count] = s.az;
-                el[count] = s.el;
-                feed[count] = s.feed;
-                count += 1;
-            } else {
-                let none = Roadmap::empty();
+        if mount.is_valid(s) {
+            if map.count == Roadmap::MOST {
+                *map = Roadmap::empty();
                 return Built {
-                    map: none,
                     answer: Answer::Full,
-                    taken,
+                    taken: at + 1,
                 };
             }
+            join_earlier(
+                &mut map.legs,
+                &map.milestones[..map.count],
+                mount,
+                radius,
+                s,
+            );
+            map.push(s);
         }
-        at += 3;
     }
-    let out = Roadmap {
-        az,
-        el,
-        feed,
-        legs,
-        count,
-    };
     Built {
-        map: out,
         answer: Answer::Done,
-        taken,
+        taken: many,
     }
 }

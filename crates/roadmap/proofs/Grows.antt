@@ -1,5 +1,5 @@
 -- The roadmap with one milestone more, as the code writes it.
-use Prim.Native.Nat.{ℕ, suc, ◌+◌, ◌<◌}
+use Prim.Native.Nat.{ℕ, suc, ◌+◌, ◌≤◌, ◌<◌, min}
 use mathlib.Core.Bool.{Bool, false, ◌&&◌, ◌||◌, or-false, and-false}
 use mathlib.Core.List.{List, [], ◌∷◌, ◌++◌}
 use mathlib.Core.Path.{◌≡◌, refl, sym, ◌∙◌, ap₂}
@@ -7,13 +7,14 @@ use native.Mathlib.Omega.{arith}
 use native.Mathlib.Numerals.{add-one}
 use borrow.Author.Tests.{eq-eqb, ne_eqb, lt-ltb, le-ltb}
 use lib.Dec.{eqb}
-use lib.ListN.{length, set}
+use lib.ListN.{length, set, length-set}
 use lib.Seq.{get_or-set_same, get_or-set_other}
 use Rattle.state.specs.declared.State.{State}
 use Rattle.legs.specs.Bits.{leg_at}
 use Rattle.roadmap.specs.Map.{Milestone, add_of}
 use Rattle.state.specs.Rows.{state_at}
-use Rattle.roadmap.specs.View.{span_of, view_of, Clean, Joins}
+use Rattle.roadmap.specs.View.{span_of, view_of, milestones_of, pushed_of, Clean, Joins}
+use Rattle.roadmap.specs.declared.Roadmap.{Roadmap}
 use Rattle.roadmap.proofs.Span.{span_snoc, span_same, span_mark}
 
 module _ (states : List State) (old : List ℕ) (n : ℕ) (f : ℕ → Bool) (now : List ℕ) (s : State)
@@ -83,3 +84,27 @@ module _ (states : List State) (old : List ℕ) (n : ℕ) (f : ℕ → Bool) (no
             λ a b ha hb h. joins.is a b ha hb
             ∙ rw (clean.column a b ha hb (omega arith), ne_eqb b n (λ e. omega arith), le-ltb b n (omega arith)) (or-false (eqb a n && false) ∙ and-false (eqb a n));
       }
+
+-- a table with a place left: a milestone more, whose legs were joined first
+module _ (m : Roadmap) (f : ℕ → Bool) (now : List ℕ) (s : State) (room : m.count < 256) (sized : length m.milestones ≡ 256) (empty : Clean m.legs m.count) (new : Joins m.legs m.count m.count f now) where
+  abbrev after : Roadmap
+  after = pushed_of (record { milestones = m.milestones; legs = now; count = m.count }) s
+
+  pub push_add : milestones_of after ≡ add_of (milestones_of m) s (span_of 0 m.count f)
+  unfolding milestones_of pushed_of
+  push_add =
+      let here : min m.count 256 ≡ m.count = omega arith in
+      let there : min (m.count + 1) 256 ≡ m.count + 1 = omega arith in
+      rw (here, there) (view_add m.milestones m.legs m.count f now s sized room empty new)
+
+  pub push_clean : Clean after.legs after.count
+  unfolding pushed_of
+  push_clean = clean_add m.milestones m.legs m.count f now s sized room empty new
+
+  pub push_sized : length after.milestones ≡ 256
+  unfolding pushed_of
+  push_sized = length-set m.milestones m.count s ∙ sized
+
+  pub push_room : after.count ≤ 256
+  unfolding pushed_of
+  push_room = omega arith

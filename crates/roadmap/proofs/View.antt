@@ -20,9 +20,9 @@ use Rattle.legs.proofs.Square.{cleared}
 use Rattle.std.specs.Prelude.{Some, None}
 use Rattle.roadmap.specs.Map.{Milestone, milestone_at, milestone_of, leg_of, flags_of}
 use Rattle.state.specs.Rows.{state_at, nowhere}
-use Rattle.roadmap.specs.View.{span_of, view_of, milestones_of, Clean}
+use Rattle.roadmap.specs.View.{span_of, view_of, milestones_of, empty_of, Clean}
 use Rattle.roadmap.specs.declared.Roadmap.{Roadmap}
-use Rattle.roadmap.proofs.Span.{span_long, span_map, span_get, span_over}
+use Rattle.roadmap.proofs.Span.{span_same, span_long, span_map, span_get, span_over}
 
 module _ (states : List State) (legs : List ℕ) (n : ℕ) where
   abbrev entry : ℕ → Milestone
@@ -114,6 +114,39 @@ module _ (m : Roadmap) (long : length m.milestones ≡ 256) where
     unfolding milestones_of
     leg_none i j p = no_legs m.milestones m.legs few i j (omega (arith, size_few))
 
+-- the flags of a new milestone: those of the states of the table's first places
+pub flags_held :
+    (joins : State → State → Bool) (m : Roadmap) (s : State) → m.count ≤ 256 →
+    flags_of joins (milestones_of m) s ≡ span_of 0 m.count (λ (j : ℕ). joins s (state_at (take m.count m.milestones) j))
+unfolding milestones_of
+flags_held joins m s h =
+    let few : min m.count 256 ≡ m.count = omega arith in
+    rw few
+    (view_flags m.milestones m.legs m.count joins s
+    ∙ span_same 0 m.count (λ (j : ℕ). joins s (state_at m.milestones j)) (λ (j : ℕ). joins s (state_at (take m.count m.milestones) j))
+    (λ j _ l. ap (joins s) (sym (get_or-take m.count m.milestones j nowhere (omega arith)))))
+
+pub milestones_long : (m : Roadmap) → m.count ≤ 256 → length (milestones_of m) ≡ m.count
+unfolding milestones_of
+milestones_long m h = view_long m.milestones m.legs (min m.count 256) ∙ omega arith
+
 -- a cleared square has no leg
 pub clean : (k n : ℕ) → Clean (replicate k 0) n
 clean k n = record { row = λ a b ha hb h. cleared k a b; column = λ a b ha hb h. cleared k a b }
+
+-- the table without a milestone
+pub empty_is : milestones_of empty_of ≡ []
+unfolding milestones_of empty_of
+empty_is = view_none _ _ 0 refl
+
+pub empty_clean : Clean empty_of.legs empty_of.count
+unfolding empty_of
+empty_clean = clean 1024 0
+
+pub empty_sized : length empty_of.milestones ≡ 256
+unfolding empty_of
+empty_sized = refl
+
+pub empty_room : empty_of.count ≤ 256
+unfolding empty_of
+empty_room = omega arith

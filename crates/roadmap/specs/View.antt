@@ -1,5 +1,7 @@
 -- The roadmap that a table holds, as a list.
-use Rattle.std.specs.Prelude.{ℕ, zero, suc, ◌+◌, ◌<◌, ◌≤◌, min, Bool, false, ◌&&◌, ◌||◌, List, [], ◌∷◌, ◌≡◌, eqb, ltb, length, set}
+use Rattle.std.specs.Prelude.{ℕ, zero, suc, ◌+◌, ◌<◌, ◌≤◌, min, Bool, false, ◌&&◌, ◌||◌, List, [], ◌∷◌, ◌≡◌, eqb, ltb, length, set, replicate}
+use Rattle.std.specs.Float.{binary64}
+use Rattle.std.specs.Float.Ieee.{of_bits}
 use Rattle.state.specs.Rows.{state_at}
 use Rattle.state.specs.declared.State.{State}
 use Rattle.legs.specs.Bits.{leg_at}
@@ -18,6 +20,12 @@ view_of states legs n = span_of 0 n (λ (i : ℕ). record { at = state_at states
 -- as many as the count says, at most the 256 of the table
 unfoldable pub milestones_of : Roadmap → List Milestone
 milestones_of m = view_of m.milestones m.legs (min m.count 256)
+
+-- the table without a milestone
+unfoldable pub empty_of : Roadmap
+empty_of =
+    let zero = of_bits binary64 0 in
+    record { milestones = replicate 256 (record { az = zero; el = zero; feed = zero }); legs = replicate 1024 0; count = 0 }
 
 -- the table with a state more in the next place, and the legs as they are
 unfoldable pub pushed_of : Roadmap → State → Roadmap

@@ -1,9 +1,9 @@
 // The roadmap of PRM (document 01, "PRM construction"): milestones in a table, and legs as a square of bits.
 #![tactic(auto)]
 
-ghost use Rattle.std.specs.Prelude.{[], ◌≡◌, ◌<◌, length, take};
+ghost use Rattle.std.specs.Prelude.{◌≡◌, ◌<◌, length, take};
 ghost use Rattle.roadmap.specs.Map.{milestone_of, leg_of};
-ghost use Rattle.roadmap.specs.View.{milestones_of, pushed_of};
+ghost use Rattle.roadmap.specs.View.{milestones_of, empty_of, pushed_of};
 
 use state::State;
 
@@ -19,7 +19,7 @@ impl Roadmap {
     pub const MOST: usize = 256;
 
     pub fn empty() -> Roadmap
-        ensures { milestones_of result ≡ [] }
+        ensures { result ≡ empty_of }
     {
         let zero = State {
             az: 0.0,

@@ -1,11 +1,6 @@
-use Prim.Native.Nat.{◌-◌}
-use lib.ListN.{length}
-use Rattle.columns.specs.Columns.{columns_of}
+use Rattle.keep_out_table.specs.Table.{keep_outs_of}
 use Rattle.construct.proofs.Runs.{Building}
 use Rattle.construct.proofs.construct.Given as goal
 
-abbrev pub invariant-samples : goal.invariant-samples
-invariant-samples l = Building l.limits l.segment (columns_of l.columns.kinds l.columns.numbers l.rows) l.radius l.samples l.az l.el l.feed l.legs l.count l.at l.taken
-
-abbrev pub decreases-samples : goal.decreases-samples
-decreases-samples l = length l.samples - l.at
+abbrev pub invariant-loop-at : goal.invariant-loop-at
+invariant-loop-at l = Building l.mount.limits l.mount.segment.value (keep_outs_of l.mount.table) l.radius l.samples l.map l.at
