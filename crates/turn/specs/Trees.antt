@@ -1,7 +1,7 @@
 -- RRT-Connect's two trees.
 use Rattle.std.specs.Prelude.{ℕ, length}
-use Rattle.tree.specs.Table.{Nodes, nodes_in}
-use Rattle.turn.specs.Turn.{Columns}
+use Rattle.tree.specs.Table.{Nodes, nodes_of}
+use Rattle.tree.specs.declared.Tree.{Tree}
 
 pub record Trees : Type 0 where
   pub start : Nodes
@@ -11,7 +11,6 @@ pub record Trees : Type 0 where
 abbrev pub size_of : Nodes → ℕ
 size_of nodes = length nodes.states
 
--- the trees that two sets of columns hold
-unfoldable pub trees_at : ℕ → Columns → ℕ → Columns → Trees
-trees_at n c m d =
-    record { start = nodes_in n c.az c.el c.feed c.parent; goal = nodes_in m d.az d.el d.feed d.parent }
+-- the trees that two tables hold
+abbrev pub trees_at : Tree → Tree → Trees
+trees_at start goal = record { start = nodes_of start; goal = nodes_of goal }

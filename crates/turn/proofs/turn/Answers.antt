@@ -1,35 +1,38 @@
-use Rattle.std.specs.Prelude.{◌&&◌, ◌≡◌, false}
+use Rattle.std.proofs.Common.{◌≡◌, false, ◌&&◌}
 use Rattle.fields.specs.Satisfied.{satisfied_of}
-use Rattle.tree.specs.Table.{nodes_in}
-use Rattle.turn.specs.Turn.{columns_at, Holds}
-use mathlib.Core.Path.{refl, sym, ◌∙◌}
-use Rattle.laws.specs.Cases.{and_true, and_left, and_right}
-use Rattle.turn.proofs.Turning.{turn_refused, turn_full, turn_goal, turn_connected}
+use Rattle.turn.specs.Turn.{by_verdict, turn_of}
 use Rattle.turn.proofs.turn.Goals as goal
-use Rattle.turn.proofs.turn.Goals.{Start, else-from_start, then-from_start+else-is_satisfied}
-
--- the other tree, as it came
-beside :
-    (s : Start) →
-    let o = s.args in
-    Holds (columns_at o.other_az.now o.other_el.now o.other_feed.now o.other_parent.now) o.m
-    (nodes_in o.m o.other_az.now o.other_el.now o.other_feed.now o.other_parent.now)
-beside s = record { tree = refl; some = s.requires.m_nonzero.0; room = s.requires.m_nonzero.1; sized = s.requires.m_nonzero.2 }
-
-pub returns-then-is_satisfied : goal.returns-then-is_satisfied
-returns-then-is_satisfied c =
-    turn_goal _ _ _ _ _ c.extend-e.result _ _ _ _ c.extend-e.ensures _ _ (beside (goal.at.returns-then-is_satisfied c).Start) c.in-Added.is
-    (and_true _ _ c.if-from_start.true (sym c.is_satisfied.ensures ∙ c.if-is_satisfied.true))
+use Rattle.turn.proofs.turn.Goals.{Joined-else-from_start, else-from_start-via-then-from_start+else-is_satisfied, else-from_start-via-else-from_start}
 
 pub returns-in-Refused : goal.returns-in-Refused
+unfolding turn_of by_verdict
 returns-in-Refused c =
-    turn_refused _ _ _ _ _ c.extend-e.result _ _ _ _ c.extend-e.ensures _ _ (beside (goal.at.returns-in-Refused c).Start) c.in-Refused.is
+    let e = c.extend-e.ensures in
+    record { is = rw (← e.is, c.in-Refused.is); growing_rooted = (e.some, e.room); other_rooted = c.requires.other_rooted }
 
 pub returns-in-Full : goal.returns-in-Full
+unfolding turn_of by_verdict
 returns-in-Full c =
-    turn_full _ _ _ _ _ c.extend-e.result _ _ _ _ c.extend-e.ensures _ _ (beside (goal.at.returns-in-Full c).Start) c.in-Full.is
+    let e = c.extend-e.ensures in
+    record { is = rw (← e.is, c.in-Full.is); growing_rooted = (e.some, e.room); other_rooted = c.requires.other_rooted }
 
-pub returns-after-from_start : goal.returns-after-from_start
-returns-after-from_start c =
-    let no : c.args.from_start && satisfied_of c.args.goal c.extend-e.result.at ≡ false = elim c.if-from_start.branch [ then-from_start+else-is_satisfied w ↦ and_right _ _ w.if-from_start.true (sym w.is_satisfied.ensures ∙ w.if-is_satisfied.false) | else-from_start w ↦ and_left _ _ w.if-from_start.false ] in
-    turn_connected _ _ _ _ _ c.extend-e.result _ _ _ _ c.extend-e.ensures c.in-Added.is no _ _ _ _ _ c.connected.ensures
+pub returns-then-is_satisfied : goal.returns-then-is_satisfied
+unfolding turn_of by_verdict
+returns-then-is_satisfied c =
+    let e = c.extend-e.ensures in
+    record { is = rw (← e.is, c.in-Added.is, c.if-from_start.true, ← c.is_satisfied.ensures, c.if-is_satisfied.true); growing_rooted = (e.some, e.room); other_rooted = c.requires.other_rooted }
+
+-- the new node is no end
+no : (c : Joined-else-from_start) → c.args.from_start && satisfied_of c.args.goal c.extend-e.result.at ≡ false
+no c =
+    elim c.else-from_start.branch [
+      | else-from_start-via-then-from_start+else-is_satisfied w ↦ rw (w.if-from_start.true, ← w.is_satisfied.ensures, w.if-is_satisfied.false)
+      | else-from_start-via-else-from_start w ↦ rw (w.if-from_start.false)
+    ]
+
+pub returns-else-from_start : goal.returns-else-from_start
+unfolding turn_of by_verdict
+returns-else-from_start c =
+    let e = c.extend-e.ensures in
+    let f = c.connected.ensures in
+    record { is = rw (← e.is, c.in-Added.is, no (goal.at.returns-else-from_start c).Joined-else-from_start, ← f.is, f.ends, f.tree); growing_rooted = (e.some, e.room); other_rooted = f.rooted }
