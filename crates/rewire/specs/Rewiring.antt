@@ -1,6 +1,6 @@
 -- Document 01, "RRT*", the rewiring: per neighbour except the new node's parent, if new cost + distance(neighbour, new) is strictly below its
 -- cost and the motion new to neighbour is accepted, it moves under the new node with that cost. Costs of its descendants stay as they were.
-use Rattle.std.specs.Prelude.{ℕ, ◌+◌, Bool, not, ◌&&◌, cond, List, [], ◌∷◌, ◌≡◌, eqb, length, take, set, Float}
+use Rattle.std.specs.Prelude.{ℕ, ◌-◌, Bool, not, ◌&&◌, cond, List, [], ◌∷◌, ◌≡◌, eqb, length, map, take, set, Float}
 use Rattle.std.specs.Float.{binary64}
 use Rattle.std.specs.Float.Ieee.{add, lt}
 use Rattle.state.specs.Distance.{distance_of}
@@ -9,6 +9,8 @@ use Rattle.state.specs.declared.State.{State}
 use Rattle.fields.specs.declared.Limits.{Limits}
 use Rattle.keep_out.specs.declared.KeepOut.{KeepOut}
 use Rattle.motion.specs.Accepts.{accepts_of}
+use Rattle.tree.specs.declared.Tree.{Tree}
+use Rattle.tree.specs.Table.{state_in, nodes_of, states_of}
 use Rattle.choice.specs.declared.Choice.{Choice}
 use Rattle.choice.specs.Parent.{cost_at}
 
@@ -33,13 +35,14 @@ rewire_of limits segment ks states new choice number links (i ∷ is) =
     let moved : Links = record { parents = set links.parents i number; costs = set links.costs i (cost_under states new choice i) } in
     rewire_of limits segment ks states new choice number (cond (moves limits segment ks states new choice links i) moved links) is
 
--- the first n of both columns
-abbrev pub links_in : ℕ → List ℕ → List Float → Links
-links_in n parent cost = record { parents = take n parent; costs = take n cost }
+-- those of a tree's nodes
+abbrev pub links_of : Tree → List Float → Links
+links_of t costs = record { parents = (nodes_of t).parents; costs = take t.count costs }
 
--- what the code's rewiring leaves in both columns
-pub record Rewires (limits : Limits) (segment : Float) (ks : List KeepOut) (states : List State) (new : State) (choice : Choice) (n : ℕ)
-    (before : Links) (neighbours : List ℕ) (parent : List ℕ) (cost : List Float) : Type 0 where
-  pub is : links_in (n + 1) parent cost ≡ rewire_of limits segment ks states new choice n before neighbours
-  pub parent_sized : length parent ≡ 512
-  pub cost_sized : length cost ≡ 512
+-- what the code's rewiring around its last node makes of a tree and its costs: no state, and no place past the count, is another
+pub record Rewires (limits : Limits) (segment : Float) (ks : List KeepOut) (new : State) (choice : Choice) (before : Tree) (costs : List Float)
+    (neighbours : List ℕ) (after : Tree) (costs' : List Float) : Type 0 where
+  pub is : links_of after costs' ≡ rewire_of limits segment ks (states_of before) new choice (before.count - 1) (links_of before costs) neighbours
+  pub states : map state_in after.nodes ≡ map state_in before.nodes
+  pub count : after.count ≡ before.count
+  pub cost_sized : length costs' ≡ 512

@@ -1,11 +1,7 @@
-use Prim.Native.Nat.{◌+◌, ◌-◌}
-use Rattle.columns.specs.Columns.{columns_of}
-use Rattle.rewire.specs.Rewiring.{links_in}
+use Rattle.keep_out_table.specs.Table.{keep_outs_of}
 use Rattle.rewire.proofs.Moves.{Moving}
 use Rattle.rewire.proofs.rewire.Given as goal
 
-abbrev pub invariant-neighbours : goal.invariant-neighbours
-invariant-neighbours l = Moving l.limits l.segment (columns_of l.kinds l.numbers l.keep_outs) l.az l.el l.feed l.n l.new l.choice l.many l.found (links_in (l.n + 1) l.initial.parent l.initial.cost) l.k l.parent l.cost
-
-abbrev pub decreases-neighbours : goal.decreases-neighbours
-decreases-neighbours l = l.many - l.k
+abbrev pub invariant-loop-i : goal.invariant-loop-i
+invariant-loop-i l =
+    Moving l.mount.limits l.mount.segment.value (keep_outs_of l.mount.table) l.new l.choice l.initial.tree l.initial.cost l.neighbours l.i-index l.tree l.cost
