@@ -9,26 +9,24 @@ use keep_out::KeepOut;
 use keep_out_table::KeepOuts;
 use state::State;
 
-// The number at a place, and past the last one a NaN, which no call takes.
+// What stands past the last number: a NaN, which no call takes.
+const NONE: f64 = f64::NAN;
+
+// The number at a place.
 pub fn number(numbers: &[f64], i: usize) -> f64
     ensures { result ≡ number_at numbers.now i }
 {
-    if i < numbers.len() {
-        return numbers[i];
-    }
-    0.0 / 0.0
+    numbers.get(i).copied().unwrap_or(NONE)
 }
 
-// The number so many places on. It is read from what follows the place, since the sum of the two may be too large for a word.
+// The number so many places on. No list is as long as the largest word, so that a sum that is cut to that is past the last number too.
 fn number_after(numbers: &[f64], i: usize, by: usize) -> f64
     ensures { result ≡ number_at numbers.now (i + by) }
 {
-    if i < numbers.len() {
-        return number(&numbers[i..], by);
-    }
-    number(numbers, i)
+    number(numbers, i.saturating_add(by))
 }
 
+#[tactic(auto, unfolding(crate::specs::Given::length_at))]
 pub fn length(numbers: &[f64], i: usize) -> Length
     ensures { result ≡ length_at numbers.now i }
 {
@@ -37,6 +35,7 @@ pub fn length(numbers: &[f64], i: usize) -> Length
     }
 }
 
+#[tactic(auto, unfolding(crate::specs::Given::state_at))]
 pub fn state(numbers: &[f64], i: usize) -> State
     ensures { result ≡ state_at numbers.now i }
 {
@@ -47,31 +46,33 @@ pub fn state(numbers: &[f64], i: usize) -> State
     }
 }
 
+#[tactic(auto, unfolding(crate::specs::Given::goal_at))]
 pub fn goal(numbers: &[f64], i: usize) -> Goal
     ensures { result ≡ goal_at numbers.now i }
 {
-    let centre = state(numbers, i);
     Goal {
-        centre,
+        centre: state(numbers, i),
         radius: number_after(numbers, i, 3),
     }
 }
 
 // They come first on a line, low then high, per axis.
+#[tactic(auto, unfolding(crate::specs::Given::limits_in))]
 pub fn limits(numbers: &[f64]) -> Limits
     ensures { result ≡ limits_in numbers.now }
 {
-    let low = State {
-        az: number(numbers, 0),
-        el: number(numbers, 2),
-        feed: number(numbers, 4),
-    };
-    let high = State {
-        az: number(numbers, 1),
-        el: number(numbers, 3),
-        feed: number(numbers, 5),
-    };
-    Limits { low, high }
+    Limits {
+        low: State {
+            az: number(numbers, 0),
+            el: number(numbers, 2),
+            feed: number(numbers, 4),
+        },
+        high: State {
+            az: number(numbers, 1),
+            el: number(numbers, 3),
+            feed: number(numbers, 5),
+        },
+    }
 }
 
 // What the numbers of a setup stand for, in document 01's order. The eighth is the reach of a motion: max_distance, or PRM's connection_radius.
@@ -87,24 +88,18 @@ pub struct Fields {
 pub fn fields_in(numbers: &[f64]) -> Fields
     ensures { result ≡ fields_in_of numbers.now }
 {
-    let limits = limits(numbers);
-    let segment = length(numbers, 6);
-    let reach = length(numbers, 7);
-    let start = state(numbers, 8);
-    let goal = goal(numbers, 11);
     Fields {
-        limits,
-        segment,
-        reach,
-        start,
-        goal,
+        limits: limits(numbers),
+        segment: length(numbers, 6),
+        reach: length(numbers, 7),
+        start: state(numbers, 8),
+        goal: goal(numbers, 11),
     }
 }
 
 // The keep-out of a line whose row asks for one: it comes first in the table.
-pub fn keep_out(table: KeepOuts) -> KeepOut
-    ensures { result ≡ first_in table }
+pub fn keep_out(table: &KeepOuts) -> KeepOut
+    ensures { result ≡ first_in table.now }
 {
-    let slot = table.slots[0];
-    slot.held
+    table.slots[0].held
 }

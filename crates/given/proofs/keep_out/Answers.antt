@@ -1,4 +1,3 @@
-use Prim.Native.Nat.{◌<◌}
 use mathlib.Core.Path.{◌≡◌, ap}
 use native.Mathlib.Omega.{arith}
 use borrow.Author.Rules.{rules}
@@ -7,15 +6,10 @@ use Rattle.laws.specs.Rest.{mapped, within}
 use Rattle.keep_out_table.specs.Table.{held_of}
 use Rattle.given.specs.Given.{first_in}
 use Rattle.given.proofs.keep_out.Goals as goal
-use Rattle.given.proofs.keep_out.Goals.{Start}
-
--- the table has 32 places
-sized : (c : Start) → length c.args.table.slots ≡ 32
-sized c = search (mapped, rules)
 
 pub returns : goal.returns
 unfolding first_in
 returns c =
-    let slots = c.args.table.slots in
-    let some : 0 < length slots = omega (arith, sized (goal.at.returns c).Start) in
-    ap held_of (within slots 0 _ _ some)
+    let slots = c.args.table.now.slots in
+    let sized : length slots ≡ 32 = search (mapped, rules) in
+    ap held_of (within slots 0 _ _ (omega arith))

@@ -1,8 +1,9 @@
-use mathlib.Core.Path.{sym}
-use lib.ListN.{get_or-eq_default}
-use lib.Ieee.{nan, div, of_bits}
+use mathlib.Core.Path.{ap, ◌∙◌}
+use native.Mathlib.Omega.{arith}
+use lib.Ieee.{nan, of_bits}
+use Rattle.std.specs.Option.{unwrap_or}
 use Rattle.given.proofs.number.Goals as goal
 
 pub returns : goal.returns
-unfolding div of_bits
-returns c = sym (get_or-eq_default c.args.numbers.now nan c.if-i-numbers.false)
+unfolding of_bits
+returns c = c.unwrap_or.ensures ∙ ap (λ x. unwrap_or x nan) c.copied.ensures ∙ c.get.ensures.lookup.4 (omega arith) nan
