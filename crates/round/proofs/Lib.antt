@@ -1,2 +1,2 @@
 -- The crate's laws that belong to no one function.
-pub mod Rounding
+pub mod Planting
