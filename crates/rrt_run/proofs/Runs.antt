@@ -1,26 +1,32 @@
--- What one turn of the run does to its definition. The step stays a name here.
-use Prim.Native.Nat.{ℕ, ◌+◌, ◌≤◌, ◌<◌}
-use mathlib.Core.Bool.{Bool, true, false}
-use mathlib.Core.List.{List, ◌∷◌}
-use mathlib.Core.Path.{◌≡◌, sym, ◌∙◌, ap}
+-- A run that has come so far, what one turn of it does, and its ends.
+use Prim.Native.Nat.{ℕ, ◌+◌, ◌*◌, ◌/◌, ◌≤◌, ◌<◌}
+use mathlib.Core.Bool.{Bool, true, false, not}
+use mathlib.Core.List.{List, [], ◌∷◌}
+use mathlib.Core.Path.{◌≡◌, refl, sym, ◌∙◌, ap}
 use native.Mathlib.Omega.{arith}
 use borrow.Author.Tests.{lt-ltb, le-ltb}
-use lib.ListN.{length, drop, get_or}
-use lib.Ieee.{Float, nan}
-use Rattle.answer.specs.declared.Answer.TheVariants.{Done, Full}
+use lib.ListN.{length}
+use lib.Ieee.{Float}
+use Rattle.answer.specs.declared.Answer.TheVariants.{Done, SamplesEnded, Full}
 use Rattle.fields.specs.Satisfied.{satisfied_of}
+use Rattle.fields.specs.declared.Goal.{Goal}
+use Rattle.fields.specs.declared.Length.{Length}
+use Rattle.mount.specs.declared.Mount.{Mount}
 use Rattle.state.specs.declared.State.{State}
-use Rattle.samples.specs.Samples.{samples_of}
-use Rattle.samples.proofs.Threes.{three}
-use Rattle.tree.specs.Table.{Nodes, states_of, nodes_in, nodes_of, grown_of}
+use Rattle.samples.specs.Samples.{samples_of, sample_of}
+use Rattle.samples.proofs.Threes.{Walked, Turn, walk_next, walk_sample, walk_over, walk_ends}
+use Rattle.tree.specs.Table.{Nodes, states_of, nodes_of, grown_of, pushed_of}
+use Rattle.tree.specs.declared.Tree.{Tree}
+use Rattle.tree.proofs.Nodes.{states_are, nodes_length}
+use Rattle.tree.proofs.Push.{push_grows}
 use Rattle.step.specs.Step.{step_of}
 use Rattle.step.specs.declared.Stepped.{Stepped}
-use Rattle.tree.specs.declared.Tree.{Tree}
-use Rattle.tree.proofs.Append.{Sized, put_of, put_grows, nodes_length}
 use Rattle.route.specs.Path.{path_of}
-use Rattle.plan.specs.Plan.{Plan}
+use Rattle.route.specs.Written.{Wrote, written_of}
+use Rattle.route.proofs.Stores.{nothing_written}
+use Rattle.plan.specs.Plan.{Plan, plan_from}
 use Rattle.plan.specs.Solve.{Ended, no_route}
-use Rattle.rrt_run.specs.Run.{after_of, run_of}
+use Rattle.rrt_run.specs.Run.{after_of, run_of, Runs}
 
 -- the step toward a sample
 abbrev pub step_at : Plan → List State → State → Stepped
@@ -49,48 +55,130 @@ module _ (p : Plan) (nodes : Nodes) (taken : ℕ) (s : State) (ss : List State) 
     unfolding run_of after_of
     run_added g = rw (← is, h, lt-ltb (length nodes.states) 512 l, g)
 
--- The same over the table and the list of numbers: `at` is where the next sample stands, and `inv` says that the run so far has come
--- to the table t with `taken` samples.
-module _ (p : Plan) (nodes₀ : Nodes) (t : Tree) (taken : ℕ) (l : List Float) (at : ℕ) (here : at + 3 ≤ length l) (room : t.count ≤ 512)
-    (inv : run_of p nodes₀ 0 (samples_of l) ≡ run_of p (nodes_of t) taken (samples_of (drop at l))) (e : Stepped)
-    (is :
-    e ≡ step_at p (states_of t.count t.az t.el t.feed) (record { az = get_or l at nan; el = get_or l (at + 1) nan; feed = get_or l (at + 2) nan })) where
+-- A run so far: k samples are taken, in parts of `size` numbers, and the tree is t.
+pub record Sofar (mount : Mount) (max : Length) (goal : Goal) (rooted : Tree) (list old : List Float) (size k : ℕ) (rest : List Float) (t : Tree) (out : List Float) : Type 0 where
+  pub walked : Walked list size k rest
+  pub some : 0 < t.count
+  pub room : t.count ≤ 512
+  pub kept : out ≡ old
+  pub is : run_of (plan_from mount max goal) (nodes_of rooted) 0 (samples_of list) ≡ run_of (plan_from mount max goal) (nodes_of t) k (samples_of rest)
+
+module _ {mount : Mount} {max : Length} {goal : Goal} {rooted : Tree} {list old : List Float} {size k : ℕ} {rest : List Float} {t : Tree} {out : List Float}
+    (w : Sofar mount max goal rooted list old size k rest t out) where
+  abbrev p : Plan
+  p = plan_from mount max goal
+
   abbrev whole : Ended Nodes
-  whole = run_of p nodes₀ 0 (samples_of l)
+  whole = run_of p (nodes_of rooted) 0 (samples_of list)
 
-  abbrev sample : State
-  sample = record { az = get_or l at nan; el = get_or l (at + 1) nan; feed = get_or l (at + 2) nan }
+  pub run_ends : length rest < size → Runs mount max goal rooted list old (record { answer = SamplesEnded; count = 0; taken = length list / 3 }) t out
+  run_ends h =
+      record {
+        ended = no_route (nodes_of t) SamplesEnded (length list / 3);
+        is = sym (w.is ∙ ap (run_of p (nodes_of t) k) (walk_over w.walked h) ∙ over k ∙ ap (no_route (nodes_of t) SamplesEnded) (walk_ends w.walked h));
+        nodes = refl;
+        answer = refl;
+        count = refl;
+        taken = refl;
+        memory = w.kept ∙ sym (nothing_written old);
+        some = w.some;
+        room = w.room;
+      }
+    where
+      over : (k : ℕ) → run_of p (nodes_of t) k [] ≡ no_route (nodes_of t) SamplesEnded k
+      over k = unfold run_of in refl
 
-  is' : e ≡ step_at p (nodes_of t).states sample
-  unfolding nodes_in nodes_of
-  is' = is
+  -- The next sample is s, of the numbers x. It is the i-th, and e is the step toward it.
+  module _ {i : ℕ} {x : List Float} {size' k' : ℕ} {rest' : List Float} (turn : Turn size k rest i x size' k' rest')
+      {s : State} (is-s : s ≡ sample_of x) {e : Stepped} (is-e : e ≡ step_at p (states_of t) s) where
+    is-e' : e ≡ step_at p (nodes_of t).states s
+    is-e' = rw (states_are t) is-e
 
-  many : length (nodes_of t).states ≡ t.count
-  many = nodes_length t room
+    taken_up : whole ≡ run_of p (nodes_of t) k (s ∷ samples_of rest')
+    taken_up = w.is ∙ ap (run_of p (nodes_of t) k) (walk_sample w.walked turn ∙ ap (λ (y : State). y ∷ samples_of rest') (sym is-s))
 
-  turn : whole ≡ run_of p (nodes_of t) taken (sample ∷ samples_of (drop (at + 3) l))
-  turn = inv ∙ ap (run_of p (nodes_of t) taken) (three l at nan nan nan here)
+    walked' : Walked list size' k' rest'
+    walked' = walk_next w.walked turn
 
-  pub turn_refused : e.accepted ≡ false → whole ≡ run_of p (nodes_of t) (taken + 1) (samples_of (drop (at + 3) l))
-  turn_refused h = turn ∙ run_refused p (nodes_of t) taken sample _ e is' h
+    pub turn_refused : not e.accepted ≡ true → Sofar mount max goal rooted list old size' k' rest' t out
+    turn_refused h =
+        let no : e.accepted ≡ false = grind arith in
+        record {
+          walked = walked';
+          some = w.some;
+          room = w.room;
+          kept = w.kept;
+          is = taken_up ∙ run_refused p (nodes_of t) k s _ e is-e' no ∙ ap (λ (n : ℕ). run_of p (nodes_of t) n (samples_of rest')) (sym turn.next);
+        }
 
-  pub turn_full : e.accepted ≡ true → 512 ≤ t.count → whole ≡ no_route (nodes_of t) Full (taken + 1)
-  turn_full h k = turn ∙ run_full p (nodes_of t) taken sample _ e is' h (omega (arith, many))
+    -- n nodes stand in the tree
+    module _ (h : not e.accepted ≡ false) {n : ℕ} (many : n ≡ length (nodes_of t).states) where
+      yes : e.accepted ≡ true
+      yes = grind arith
 
-  module _ (z : Sized t) (h : e.accepted ≡ true) (k : t.count < 512) (b : Bool) (f : b ≡ satisfied_of p.goal e.at) where
-    abbrev put : Tree
-    put = put_of t e.at e.parent
+      pub turn_full : n ≡ 512 → Runs mount max goal rooted list old (record { answer = Full; count = 0; taken = i + 1 }) t out
+      turn_full l =
+          record {
+            ended = no_route (nodes_of t) Full (i + 1);
+            is = sym (taken_up ∙ run_full p (nodes_of t) k s _ e is-e' yes (omega arith) ∙ ap (λ (m : ℕ). no_route (nodes_of t) Full (m + 1)) (sym turn.counts));
+            nodes = refl;
+            answer = refl;
+            count = refl;
+            taken = refl;
+            memory = w.kept ∙ sym (nothing_written old);
+            some = w.some;
+            room = w.room;
+          }
 
-    grows : nodes_of put ≡ grown_of (nodes_of t) e.at e.parent
-    grows = put_grows t e.at e.parent k z
+      module _ (sized : length t.nodes ≡ 512) (l : n ≡ 512 → ⊥) where
+        -- the count is below the table's places
+        pub low : t.count < 512
+        low = omega (arith, many, nodes_length t (omega (arith, sized)), w.room)
 
-    pub turn_goal : b ≡ true → whole ≡ record { tables = nodes_of put; answer = Done; path = path_of (nodes_of put) t.count; taken = taken + 1 }
-    turn_goal g =
-        turn ∙ run_goal p (nodes_of t) taken sample _ e is' h (omega (arith, many)) (sym f ∙ g)
-        ∙ ap (λ (x : Nodes). record { tables = x; answer = Done; path = path_of x (length (nodes_of t).states); taken = taken + 1 }) (sym grows)
-        ∙ ap (λ (k : ℕ). record { tables = nodes_of put; answer = Done; path = path_of (nodes_of put) k; taken = taken + 1 }) many
+        abbrev pushed : Tree
+        pushed = pushed_of t e.at e.parent
 
-    pub turn_added : b ≡ false → whole ≡ run_of p (nodes_of put) (taken + 1) (samples_of (drop (at + 3) l))
-    turn_added g =
-        turn ∙ run_added p (nodes_of t) taken sample _ e is' h (omega (arith, many)) (sym f ∙ g)
-        ∙ ap (λ (x : Nodes). run_of p x (taken + 1) (samples_of (drop (at + 3) l))) (sym grows)
+        grows : nodes_of pushed ≡ grown_of (nodes_of t) e.at e.parent
+        grows = push_grows t e.at e.parent (omega (arith, low))
+
+        below : length (nodes_of t).states < 512
+        below = omega (arith, low, nodes_length t (omega (arith, sized)))
+
+        more : pushed.count ≡ t.count + 1
+        more = unfold pushed_of in refl
+
+        -- what is asked of the way to the new node
+        pub way_in : 1536 ≤ length old → (n < pushed.count) × (pushed.count ≤ 512) × (3 * pushed.count ≤ length out)
+        way_in h = (omega (arith, many, more, nodes_length t (omega (arith, sized))), omega (arith, low, more), omega (arith, low, more, h, ap length w.kept))
+
+        pub turn_added : {g : Bool} → g ≡ satisfied_of goal e.at → g ≡ false → Sofar mount max goal rooted list old size' k' rest' pushed out
+        turn_added sat other =
+            record {
+              walked = walked';
+              some = omega (arith, more);
+              room = omega (arith, low, more);
+              kept = w.kept;
+              is = taken_up ∙ run_added p (nodes_of t) k s _ e is-e' yes below (sym sat ∙ other) ∙ ap (λ (x : Nodes). run_of p x (k + 1) (samples_of rest')) (sym grows)
+                  ∙ ap (λ (n : ℕ). run_of p (nodes_of pushed) n (samples_of rest')) (sym turn.next);
+            }
+
+        pub turn_found :
+            {g : Bool} → g ≡ satisfied_of goal e.at → g ≡ true →
+            {count : ℕ} {new : List Float} → Wrote (nodes_of pushed) n out count new →
+            Runs mount max goal rooted list old (record { answer = Done; count = count; taken = i + 1 }) pushed new
+        turn_found {g} sat found {count} {new} wrote =
+            record {
+              ended = record { tables = nodes_of pushed; answer = Done; path = path_of (nodes_of pushed) n; taken = i + 1 };
+              is = sym
+                  (taken_up ∙ run_goal p (nodes_of t) k s _ e is-e' yes below (sym sat ∙ found)
+                  ∙ ap (λ (x : Nodes). record { tables = x; answer = Done; path = path_of x (length (nodes_of t).states); taken = k + 1 }) (sym grows)
+                  ∙ ap (λ (m : ℕ). record { tables = nodes_of pushed; answer = Done; path = path_of (nodes_of pushed) m; taken = k + 1 }) (sym many)
+                  ∙ ap (λ (m : ℕ). record { tables = nodes_of pushed; answer = Done; path = path_of (nodes_of pushed) n; taken = m + 1 }) (sym turn.counts));
+              nodes = refl;
+              answer = refl;
+              count = wrote.count;
+              taken = refl;
+              memory = wrote.memory ∙ ap (written_of (path_of (nodes_of pushed) n)) w.kept;
+              some = omega (arith, more);
+              room = omega (arith, low, more);
+            }

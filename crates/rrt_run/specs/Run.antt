@@ -17,7 +17,7 @@ use Rattle.route.specs.Path.{path_of}
 use Rattle.route.specs.Written.{written_of}
 use Rattle.plan.specs.Plan.{Plan, plan_from}
 use Rattle.plan.specs.Solve.{Ended, no_route}
-use Rattle.rrt_run.specs.declared.Ran.{Ran}
+use Rattle.plan.specs.declared.Solved.{Solved}
 
 -- what follows a step: `refused` and `added` are the runs over the samples that are left
 unfoldable pub after_of : Goal → Nodes → Nodes → Stepped → ℕ → Ended Nodes → Ended Nodes → Ended Nodes
@@ -37,13 +37,13 @@ run_of p nodes taken (s ∷ ss) =
     after_of p.goal nodes grown e (taken + 1) refused added
 
 -- what the code's run gives
-pub record Runs (mount : Mount) (max : Length) (goal : Goal) (rooted : Tree) (samples old : List Float) (r : Ran) (new : List Float) : Type 0 where
+pub record Runs (mount : Mount) (max : Length) (goal : Goal) (rooted : Tree) (samples old : List Float) (r : Solved) (t : Tree) (new : List Float) : Type 0 where
   pub ended : Ended Nodes
   pub is : ended ≡ run_of (plan_from mount max goal) (nodes_of rooted) 0 (samples_of samples)
-  pub nodes : nodes_of r.tree ≡ ended.tables
+  pub nodes : nodes_of t ≡ ended.tables
   pub answer : r.answer ≡ ended.answer
   pub count : r.count ≡ length ended.path
   pub taken : r.taken ≡ ended.taken
   pub memory : new ≡ written_of ended.path old
-  pub some : 0 < r.tree.count
-  pub room : r.tree.count ≤ 512
+  pub some : 0 < t.count
+  pub room : t.count ≤ 512
