@@ -52,13 +52,8 @@ pub fn construct(map: &mut Roadmap, mount: &Mount, radius: f64, samples: &[f64])
         };
     }
     *map = Roadmap::empty();
-    let many = samples.len() / 3;
-    for at in 0..many {
-        let s = State {
-            az: samples[3 * at],
-            el: samples[3 * at + 1],
-            feed: samples[3 * at + 2],
-        };
+    for (at, sample) in samples.chunks_exact(3).enumerate() {
+        let s = samples::state(sample);
         if mount.is_valid(s) {
             if map.count == Roadmap::MOST {
                 *map = Roadmap::empty();
@@ -79,6 +74,6 @@ pub fn construct(map: &mut Roadmap, mount: &Mount, radius: f64, samples: &[f64])
     }
     Built {
         answer: Answer::Done,
-        taken: many,
+        taken: samples.len() / 3,
     }
 }
