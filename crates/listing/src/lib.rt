@@ -10,40 +10,31 @@ use keep_out_table::{KeepOuts, Slot};
 const LAST_KIND: u8 = 2;
 
 // Whether each of the first count kinds is one of the three.
+#[tactic(auto, unfolding(crate::specs::Table::known_of))]
 pub fn are_known(kinds: &[u8; 32], count: usize) -> bool
     ensures { result ≡ known_of kinds.now count }
 {
-    let rows = KeepOuts::rows_of(count);
-    let mut j: usize = 0;
-    'rows: while j < rows {
-        if kinds[j] <= LAST_KIND {
-            j += 1;
-        } else {
-            return false;
-        }
-    }
-    true
+    let rows = count.min(KeepOuts::MOST);
+    kinds[..rows].iter().all(|&kind| kind <= LAST_KIND)
 }
 
-// The same of the first count rows and the next `added`. Each count is cut before they are added up, so that no two of them are too many for a word.
+// The same of the first count rows and the next `added`. A sum that is cut to the largest word is past the rows too.
+#[tactic(auto, unfolding(crate::specs::Table::known_of))]
 pub fn are_known_with(kinds: &[u8; 32], count: usize, added: usize) -> bool
     ensures { result ≡ known_of kinds.now (count + added) }
 {
-    let rows = KeepOuts::rows_of(count) + KeepOuts::rows_of(added);
-    are_known(kinds, rows)
+    are_known(kinds, count.saturating_add(added))
 }
 
 // The table of the first count rows, in the form of `columns`: a kind and six numbers to a row.
-pub fn table_of<'a>(kinds: &'a [u8; 32], numbers: &'a [f64; 192], count: usize) -> KeepOuts
+pub fn table_of(kinds: &[u8; 32], numbers: &[f64; 192], count: usize) -> KeepOuts
     ensures { Listed kinds.now numbers.now count result }
 {
-    let rows = KeepOuts::rows_of(count);
+    let rows = count.min(KeepOuts::MOST);
     let mut table = KeepOuts::new();
-    let mut j: usize = 0;
-    'rows: while j < rows {
-        let k = columns::keep_out_at(kinds, numbers, j);
-        table.slots[j] = Slot { held: k };
-        j += 1;
+    for row in 0..rows {
+        let held = columns::keep_out_at(kinds, numbers, row);
+        table.slots[row] = Slot { held };
     }
     table.count = count;
     table

@@ -1,4 +1,0 @@
--- The crate's laws that belong to no one function.
-pub mod Rows
-pub mod Spread
-pub mod Walk
