@@ -1,2 +1,3 @@
 -- The crate's laws that belong to no one function.
+pub mod States
 pub mod Moves

@@ -9,7 +9,7 @@ use lib.Seq.{get_or-take, take-set-lt}
 use lib.Ieee.{Float, nan, binary64, add, lt}
 use Rattle.std.proofs.Common.{add-one, drop-cons, drop_of_length-le}
 use Rattle.std.proofs.Math.Seq.{map-set_same}
-use Rattle.std.proofs.lemmas.List.{map-set, take-map}
+use Rattle.std.proofs.lemmas.List.{map-set}
 use Rattle.state.specs.Distance.{distance_of}
 use Rattle.state.specs.Rows.{state_at}
 use Rattle.state.specs.declared.State.{State}
@@ -22,11 +22,7 @@ use Rattle.tree.specs.Table.{state_in, parent_in, nodes_in, nodes_of, states_of}
 use Rattle.tree.proofs.Nodes.{state_is}
 use Rattle.choice.specs.declared.Choice.{Choice}
 use Rattle.rewire.specs.Rewiring.{Links, cost_under, moves, rewire_of, links_of, Rewires}
-
--- trees whose places hold the same states
-same_states : (t t' : Tree) → map state_in t'.nodes ≡ map state_in t.nodes → t'.count ≡ t.count → states_of t' ≡ states_of t
-unfolding states_of
-same_states t t' e n = rw n (sym (take-map state_in t.count t'.nodes) ∙ ap (take t.count) e ∙ take-map state_in t.count t.nodes)
+use Rattle.rewire.proofs.States.{same_states}
 
 module _ (limits : Limits) (segment : Float) (ks : List KeepOut) (new : State) (choice : Choice) (before : Tree) (costs₀ : List Float) (neighbours : List ℕ) where
   -- the links when some neighbours are rewired

@@ -39,7 +39,7 @@ rewire_of limits segment ks states new choice number links (i ∷ is) =
 abbrev pub links_of : Tree → List Float → Links
 links_of t costs = record { parents = (nodes_of t).parents; costs = take t.count costs }
 
--- what the code's rewiring around its last node makes of a tree and its costs: no state, and no place past the count, is another
+-- what the code's rewiring around its last node makes of a tree and its costs: each place keeps its state
 pub record Rewires (limits : Limits) (segment : Float) (ks : List KeepOut) (new : State) (choice : Choice) (before : Tree) (costs : List Float)
     (neighbours : List ℕ) (after : Tree) (costs' : List Float) : Type 0 where
   pub is : links_of after costs' ≡ rewire_of limits segment ks (states_of before) new choice (before.count - 1) (links_of before costs) neighbours

@@ -1,3 +1,3 @@
 -- The crate's laws that belong to no one function.
-pub mod Length
+pub mod Adding
 pub mod Growing

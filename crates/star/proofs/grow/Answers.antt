@@ -1,24 +1,20 @@
-use borrow.Author.Rules.{rules}
-use Rattle.star.proofs.Growing.{nearest_is_one, refused, full, added}
+use Rattle.star.specs.Grow.{plan_with}
+use Rattle.star.proofs.Growing.{nearest_is_one, refused, full, low, added}
 use Rattle.star.proofs.grow.Goals as goal
+use Rattle.star.proofs.grow.Goals.{then-not-e, else-not-e+then-room, else-not-e+else-room}
 
-pub choose_parent-choice-requires : goal.choose_parent-choice-requires
-choose_parent-choice-requires c =
-    (c.requires.1, nearest_is_one _ _ _ _ _ _ _ _ c.requires.0 c.requires.1 _ c.step-e.result c.step-e.ensures, c.find_neighbours-many.ensures.few, c.find_neighbours-many.ensures.numbers, c.find_neighbours-many.ensures.sized)
-
-pub rewire-requires : goal.rewire-requires
-rewire-requires c =
-    (c.if-n-lt-MOST.true, c.find_neighbours-many.ensures.few, c.find_neighbours-many.ensures.numbers, c.find_neighbours-many.ensures.sized, search rules, search rules)
-
-pub returns-then-n-lt-MOST : goal.returns-then-n-lt-MOST
-returns-then-n-lt-MOST c =
-    added _ _ _ _ _ _ _ c.requires.0 c.requires.1 _ c.step-e.result c.step-e.ensures c.args.found.now c.requires.2 c.if-e.true c.if-n-lt-MOST.true _ _ c.find_neighbours-many.ensures
-    c.choose_parent-choice.result c.choose_parent-choice.ensures _ _ c.rewire.ensures
-
-pub returns-then-e : goal.returns-then-e
-returns-then-e c =
-    full _ _ _ _ _ _ _ c.requires.0 c.requires.1 _ c.step-e.result c.step-e.ensures _ c.requires.2 c.if-e.true c.if-n-lt-MOST.false
+pub add-requires : goal.add-requires
+add-requires c = (
+  low (plan_with c.args.mount.now c.args.max_distance c.args.radius) _ _ c.args.found.now c.requires _ _ c.step-e.ensures _ c.len-room.ensures.nodes c.if-not-e.false c.len-room.ensures.sized c.if-room.true,
+  nearest_is_one _ _ _ _ _ c.requires.0 _ _ c.step-e.ensures,
+  c.requires.2,
+  c.requires.3,
+)
 
 pub returns : goal.returns
 returns c =
-    refused _ _ _ _ _ _ _ c.requires.0 c.requires.1 _ c.step-e.result c.step-e.ensures _ c.requires.2 c.if-e.false
+    elim c.if-not-e.branch [
+      | then-not-e w ↦ rw (w.tree-is, w.cost-is, w.found-is, w.verdict-is) (refused _ _ _ _ c.requires _ _ c.step-e.ensures w.if-not-e.true)
+      | else-not-e+then-room w ↦ rw (w.tree-is, w.cost-is, w.found-is, w.verdict-is) (added _ _ _ _ c.requires _ _ c.step-e.ensures _ c.len-room.ensures.nodes w.if-not-e.false c.len-room.ensures.sized w.if-room.true _ _ _ w.add.ensures)
+      | else-not-e+else-room w ↦ rw (w.tree-is, w.cost-is, w.found-is, w.verdict-is) (full _ _ _ _ c.requires _ _ c.step-e.ensures _ c.len-room.ensures.nodes w.if-not-e.false w.if-room.false)
+    ]
