@@ -1,23 +1,19 @@
 // What a sample led to (document 01, "RRT-Connect"), as an answer and as a route.
 #![tactic(auto)]
 
-ghost use Rattle.std.specs.Prelude.{◌≡◌, ◌≤◌, ◌<◌, length};
-ghost use Rattle.turn.specs.Turn.{columns_at};
+ghost use Rattle.std.specs.Prelude.{◌≡◌, ◌≤◌, ◌<◌, ◌+◌, length};
+ghost use Rattle.tree.specs.Table.{nodes_of};
 ghost use Rattle.turn.specs.Trees.{trees_at};
-ghost use Rattle.ending.specs.Ending.{goes_on_of, answer_of, WroteEnd};
+ghost use Rattle.ending.specs.Ending.{goes_on_of, answer_of, newest, WroteEnd};
 
 use answer::Answer;
+use tree::Tree;
 use turn::Ends;
 
 pub fn goes_on(ends: Ends) -> bool
     ensures { result ≡ goes_on_of ends }
 {
-    match ends {
-        Ends::GoesOn => true,
-        Ends::Full => false,
-        Ends::Goal => false,
-        Ends::Joined => false,
-    }
+    matches!(ends, Ends::GoesOn)
 }
 
 pub fn answer_of(ends: Ends) -> Answer
@@ -26,46 +22,31 @@ pub fn answer_of(ends: Ends) -> Answer
     match ends {
         Ends::GoesOn => Answer::SamplesEnded,
         Ends::Full => Answer::Full,
-        Ends::Goal => Answer::Done,
-        Ends::Joined => Answer::Done,
+        Ends::Goal | Ends::Joined => Answer::Done,
     }
+}
+
+// The number of a tree's newest node.
+fn newest(tree: &Tree) -> usize
+    requires { (0 < tree.now.count) × (tree.now.count ≤ 512) }
+    ensures node { result ≡ newest (nodes_of tree.now) }
+    ensures last { result + 1 ≡ tree.now.count }
+{
+    tree.len() - 1
 }
 
 // Writes the route, if there is one, and returns how many states it has: from the start tree's root to its newest node, and where the
 // trees joined from there up the goal tree to its root, the connection once.
-pub fn write<'a>(
-    ends: Ends,
-    az: &'a [f64; 512],
-    el: &'a [f64; 512],
-    feed: &'a [f64; 512],
-    parent: &'a [usize; 512],
-    n: usize,
-    goal_az: &'a [f64; 512],
-    goal_el: &'a [f64; 512],
-    goal_feed: &'a [f64; 512],
-    goal_parent: &'a [usize; 512],
-    m: usize,
-    route: &mut [f64],
-) -> usize
-    requires { (0 < n) × (n ≤ 512) × (0 < m) × (m ≤ 512) × (3069 ≤ length route.old) }
-    ensures { WroteEnd ends (trees_at n (columns_at az.now el.now feed.now parent.now) m (columns_at goal_az.now goal_el.now goal_feed.now goal_parent.now)) route.old result route.new }
+pub fn write(ends: Ends, start: &Tree, goal: &Tree, route: &mut [f64]) -> usize
+    requires { (0 < start.now.count) × (start.now.count ≤ 512) × (0 < goal.now.count) × (goal.now.count ≤ 512) × (3069 ≤ length route.old) }
+    ensures { WroteEnd ends (trees_at start.now goal.now) route.old result route.new }
 {
     match ends {
-        Ends::GoesOn => 0,
-        Ends::Full => 0,
-        Ends::Goal => route::reconstruct_path(az, el, feed, parent, n, n - 1, route),
+        Ends::GoesOn | Ends::Full => 0,
+        Ends::Goal => route::reconstruct_path(start, newest(start), route),
         Ends::Joined => {
-            let k = route::reconstruct_path(az, el, feed, parent, n, n - 1, route);
-            let up = route::append_ancestors(
-                goal_az,
-                goal_el,
-                goal_feed,
-                goal_parent,
-                m,
-                m - 1,
-                route,
-                k,
-            );
+            let k = route::reconstruct_path(start, newest(start), route);
+            let up = route::append_ancestors(goal, newest(goal), route, k);
             k + up
         }
     }
