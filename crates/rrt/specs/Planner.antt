@@ -1,5 +1,6 @@
 -- What an RRT planner is to its caller, and document 01's setup with its fields in order.
-use Rattle.std.specs.Prelude.{ℕ, length}
+use Rattle.std.specs.Prelude.{ℕ, Option, None, length}
+use Rattle.answer.specs.declared.Answer.{Answer}
 use Rattle.state.specs.declared.State.{State}
 use Rattle.fields.specs.declared.Limits.{Limits}
 use Rattle.fields.specs.declared.Length.{Length}
@@ -8,12 +9,10 @@ use Rattle.keep_out.specs.declared.KeepOut.{KeepOut}
 use Rattle.keep_out_table.specs.declared.KeepOuts.{KeepOuts}
 use Rattle.tree.specs.Table.{Nodes, nodes_of, node_at_of, root_of}
 use Rattle.tree.specs.declared.NodeAt.{NodeAt}
-use Rattle.tree.specs.declared.NodeAt.TheVariants.{Nothing}
 use Rattle.plan.specs.Plan.{Plan, plan_of, plan_under, Planner, unset, set, view_of}
 use Rattle.plan.specs.Setup.{Told, setting_of, setup_with, usable_of}
 use Rattle.plan.specs.KeepOut.{add_with}
 use Rattle.rrt.specs.declared.Rrt.{Rrt}
-use Rattle.rrt.specs.declared.Answered.{Answered}
 
 abbrev pub View : Type 0
 View = Planner Plan Nodes
@@ -24,8 +23,9 @@ planner_of p = view_of (usable_of p.setting.ready p.tree.count) (plan_of p.setti
 abbrev pub new_of : View
 new_of = unset
 
-abbrev pub answered_of : Answered → Told Plan Nodes
-answered_of r = record { planner = planner_of r.planner; answer = r.answer }
+-- a planner after a call, and what the call answered
+abbrev pub told_of : Rrt → Answer → Told Plan Nodes
+told_of p answer = record { planner = planner_of p; answer = answer }
 
 -- setup empties the tree: it is then its root alone, the start
 unfoldable pub setup_of : View → Limits → Length → Length → State → Goal → KeepOuts → Told Plan Nodes
@@ -42,6 +42,6 @@ unfoldable pub size_of : View → ℕ
 size_of unset = 0
 size_of (set plan nodes) = length nodes.states
 
-unfoldable pub node_of : View → ℕ → NodeAt
-node_of unset i = Nothing
+unfoldable pub node_of : View → ℕ → Option NodeAt
+node_of unset i = None
 node_of (set plan nodes) i = node_at_of nodes i

@@ -2,14 +2,16 @@
 #![tactic(auto)]
 
 ghost use Rattle.std.specs.Prelude.{◌≡◌};
-ghost use Rattle.rrt.specs.Planner.{planner_of, new_of, setup_of, add_of, answered_of, size_of, node_of};
-ghost use Rattle.rrt.specs.Solve.{solved_of, solve_of};
+ghost use Rattle.plan.specs.Setup.{usable_of};
+ghost use Rattle.plan.specs.Solve.{outcome_of};
+ghost use Rattle.rrt.specs.Planner.{planner_of, new_of, told_of, setup_of, add_of, size_of, node_of};
+ghost use Rattle.rrt.specs.Solve.{solve_of};
 
 use answer::Answer;
 use fields::{Goal, Length, Limits};
 use keep_out::KeepOut;
 use keep_out_table::KeepOuts;
-use plan::Setting;
+use plan::{Setting, Solved};
 use state::State;
 use tree::{NodeAt, Tree};
 
@@ -20,22 +22,6 @@ pub struct Rrt {
     tree: Tree,
 }
 
-#[derive(Clone, Copy)]
-pub struct Answered {
-    pub planner: Rrt,
-    pub answer: Answer,
-}
-
-#[derive(Clone, Copy)]
-pub struct Solved {
-    pub planner: Rrt,
-    pub answer: Answer,
-    // The route's number of states.
-    pub count: usize,
-    // The samples taken.
-    pub taken: usize,
-}
-
 impl Rrt {
     // The length that the route buffer of a solve needs.
     pub const ROUTE: usize = 1536;
@@ -44,138 +30,89 @@ impl Rrt {
     pub fn new() -> Rrt
         ensures { planner_of result ≡ new_of }
     {
-        let zero = State {
-            az: 0.0,
-            el: 0.0,
-            feed: 0.0,
-        };
         Rrt {
             setting: Setting::none(),
-            tree: Tree::rooted(zero),
+            tree: Tree::none(),
         }
+    }
+
+    fn is_usable(&self) -> bool
+        ensures { result ≡ usable_of self.now.setting.ready self.now.tree.count }
+    {
+        plan::is_usable(self.setting.ready, self.tree.count)
     }
 
     // A refused setup keeps the planner as it was.
     pub fn setup(
-        self,
+        &mut self,
         limits: Limits,
         segment: Length,
         max_distance: Length,
         start: State,
         goal: Goal,
         table: KeepOuts,
-    ) -> Answered
-        ensures { answered_of result ≡ setup_of (planner_of self) limits segment max_distance start goal table }
+    ) -> Answer
+        ensures { told_of self.new result ≡ setup_of (planner_of self.old) limits segment max_distance start goal table }
     {
         let setting = Setting::new(limits, segment, max_distance, start, goal, table);
-        if setting.ready {
-            let planner = Rrt {
-                setting,
-                tree: Tree::rooted(start),
-            };
-            return Answered {
-                planner,
-                answer: Answer::Done,
-            };
+        if !setting.ready {
+            return Answer::BadInput;
         }
-        let kept = self;
-        Answered {
-            planner: kept,
-            answer: Answer::BadInput,
-        }
+        self.setting = setting;
+        self.tree = Tree::rooted(start);
+        Answer::Done
     }
 
     // A further solve goes on with the same tree.
-    pub fn solve(self, samples: &[f64], route: &mut [f64]) -> Solved
-        ensures { solved_of result route.new ≡ solve_of (planner_of self) samples.now route.old }
+    pub fn solve(&mut self, samples: &[f64], route: &mut [f64]) -> Solved
+        ensures { outcome_of (planner_of self.new) result route.new ≡ solve_of (planner_of self.old) samples.now route.old }
     {
+        if !self.is_usable() {
+            return Solved::refused(Answer::Uninitialised);
+        }
+        if route.len() < Rrt::ROUTE {
+            return Solved::refused(Answer::Room);
+        }
+        if !samples::are_good(samples) {
+            return Solved::refused(Answer::BadInput);
+        }
         let setting = self.setting;
-        let tree = self.tree;
-        let good = samples::are_good(samples);
-        if plan::is_usable(setting.ready, tree.count) {
-            if route.len() < Rrt::ROUTE {
-                return Solved {
-                    planner: self,
-                    answer: Answer::Room,
-                    count: 0,
-                    taken: 0,
-                };
-            }
-            if good {
-                let ran = rrt_run::run(
-                    setting.mount,
-                    setting.reach,
-                    setting.goal,
-                    tree,
-                    samples,
-                    route,
-                );
-                let grown = ran.tree;
-                let answer = ran.answer;
-                let mut planner = self;
-                planner.tree = grown;
-                return Solved {
-                    planner,
-                    answer,
-                    count: ran.count,
-                    taken: ran.taken,
-                };
-            }
-            // A list that is not good: all is kept.
-            return Solved {
-                planner: self,
-                answer: Answer::BadInput,
-                count: 0,
-                taken: 0,
-            };
-        }
-        Solved {
-            planner: self,
-            answer: Answer::Uninitialised,
-            count: 0,
-            taken: 0,
-        }
+        rrt_run::run(
+            &mut self.tree,
+            &setting.mount,
+            setting.reach,
+            setting.goal,
+            samples,
+            route,
+        )
     }
 
     // Adds a keep-out for the motions to come; what has grown stays.
-    pub fn add_keep_out(self, k: KeepOut) -> Answered
-        ensures { answered_of result ≡ add_of (planner_of self) k }
+    pub fn add_keep_out(&mut self, k: KeepOut) -> Answer
+        ensures { told_of self.new result ≡ add_of (planner_of self.old) k }
     {
-        let setting = self.setting;
-        if plan::is_usable(setting.ready, self.tree.count) {
-            let more = setting.with_keep_out(k);
-            let longer = more.setting;
-            let answer = more.answer;
-            let mut planner = self;
-            planner.setting = longer;
-            return Answered { planner, answer };
+        if !self.is_usable() {
+            return Answer::Uninitialised;
         }
-        Answered {
-            planner: self,
-            answer: Answer::Uninitialised,
-        }
+        self.setting.add_keep_out(k)
     }
 
     // How many nodes the tree has; none before an accepted setup.
-    pub fn size(self) -> usize
-        ensures { result ≡ size_of (planner_of self) }
+    pub fn size(&self) -> usize
+        ensures { result ≡ size_of (planner_of self.now) }
     {
-        let n = self.tree.count;
-        if plan::is_usable(self.setting.ready, n) {
-            n
-        } else {
-            0
+        if !self.is_usable() {
+            return 0;
         }
+        self.tree.len()
     }
 
-    pub fn node(self, i: usize) -> NodeAt
-        ensures { result ≡ node_of (planner_of self) i }
+    pub fn node(&self, i: usize) -> Option<NodeAt>
+        ensures { result ≡ node_of (planner_of self.now) i }
     {
-        let tree = self.tree;
-        let n = tree.count;
-        if plan::is_usable(self.setting.ready, n) {
-            return tree::node_at(&tree.az, &tree.el, &tree.feed, &tree.parent, n, i);
+        if !self.is_usable() {
+            return None;
         }
-        NodeAt::Nothing
+        self.tree.node_at(i)
     }
 }

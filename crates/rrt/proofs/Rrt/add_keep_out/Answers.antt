@@ -1,5 +1,5 @@
 use mathlib.Core.Bool.{Bool}
-use mathlib.Core.Path.{refl, sym, ◌∙◌}
+use mathlib.Core.Path.{refl, sym}
 use Rattle.tree.specs.Table.{nodes_of}
 use Rattle.plan.specs.Plan.{Plan, plan_under}
 use Rattle.plan.specs.Setup.{usable_of}
@@ -7,12 +7,12 @@ use Rattle.plan.proofs.Adding.{add_unset, add_set}
 use Rattle.rrt.specs.Planner.{planner_of, add_of}
 use Rattle.rrt.proofs.Rrt.add_keep_out.Goals as goal
 
-pub returns-then-is_usable : goal.returns-then-is_usable
+pub returns-then-not-is_usable : goal.returns-then-not-is_usable
 unfolding planner_of add_of
-returns-then-is_usable c =
-    let tree = c.args.self.tree in
-    add_set (λ (q : Plan). q.keep_outs) plan_under (nodes_of tree) _ (λ (q : Plan). q) (λ q. refl) (λ q ks. refl) (λ (ready : Bool). usable_of ready tree.count) _ (sym c.is_usable.ensures ∙ c.if-is_usable.true) c.with_keep_out-more.result c.with_keep_out-more.ensures
+returns-then-not-is_usable c = add_unset _ _ _ _ _ _ (sym c.if-not-is_usable.ensures)
 
 pub returns : goal.returns
 unfolding planner_of add_of
-returns c = add_unset _ _ _ _ _ _ (sym c.is_usable.ensures ∙ c.if-is_usable.false)
+returns c =
+    let tree = c.args.self.now.tree in
+    add_set (λ (q : Plan). q.keep_outs) plan_under (nodes_of tree) _ (λ (q : Plan). q) (λ q. refl) (λ q ks. refl) (λ (ready : Bool). usable_of ready tree.count) _ (sym c.if-not-is_usable.ensures) _ _ c.add_keep_out.ensures
