@@ -7,15 +7,14 @@ use Rattle.fields.specs.declared.Goal.{Goal}
 use Rattle.fields.specs.declared.Length.{Length}
 use Rattle.mount.specs.declared.Mount.{Mount}
 use Rattle.samples.specs.Samples.{samples_of}
-use Rattle.tree.specs.Table.{nodes_of}
 use Rattle.tree.specs.declared.Tree.{Tree}
 use Rattle.route.specs.Written.{written_of}
 use Rattle.plan.specs.Plan.{Plan, plan_from}
 use Rattle.plan.specs.Solve.{Ended, no_route}
-use Rattle.turn.specs.Trees.{Trees}
+use Rattle.plan.specs.declared.Solved.{Solved}
+use Rattle.turn.specs.Trees.{Trees, trees_at}
 use Rattle.round.specs.Round.{Round, round_of}
 use Rattle.ending.specs.Ending.{goes_on_of, answer_of, end_path}
-use Rattle.connect_run.specs.declared.Ran.{Ran}
 
 -- what a round leads to: `later` is the run over the samples that are left
 unfoldable pub after_of : Round → ℕ → Ended Trees → Ended Trees
@@ -30,15 +29,14 @@ run_of p trees taken (s ∷ ss) =
     let later = run_of p r.trees (taken + 1) ss in
     after_of r (taken + 1) later
 
--- what the code's run gives
-pub record Runs (mount : Mount) (max : Length) (target : Goal) (start goal : Tree) (samples old : List Float) (r : Ran) (new : List Float) : Type 0 where
+-- what the code's run gives: start and goal are the trees before it, start' and goal' those after it
+pub record Runs (mount : Mount) (max : Length) (target : Goal) (start goal : Tree) (samples old : List Float) (r : Solved) (start' goal' : Tree) (new : List Float) : Type 0 where
   pub ended : Ended Trees
-  pub is : ended ≡ run_of (plan_from mount max target) (record { start = nodes_of start; goal = nodes_of goal }) 0 (samples_of samples)
-  pub start_tree_is : nodes_of r.start ≡ ended.tables.start
-  pub goal_tree_is : nodes_of r.goal ≡ ended.tables.goal
+  pub is : ended ≡ run_of (plan_from mount max target) (trees_at start goal) 0 (samples_of samples)
+  pub trees : trees_at start' goal' ≡ ended.tables
   pub answer : r.answer ≡ ended.answer
   pub count : r.count ≡ length ended.path
   pub taken : r.taken ≡ ended.taken
   pub memory : new ≡ written_of ended.path old
-  pub some : 0 < r.start.count
-  pub room : (r.start.count ≤ 512) × (r.goal.count ≤ 512)
+  pub some : 0 < start'.count
+  pub room : (start'.count ≤ 512) × (goal'.count ≤ 512)
