@@ -6,7 +6,6 @@ use Rattle.fields.specs.Satisfied.{satisfied_of}
 use Rattle.state.specs.declared.State.{State}
 use Rattle.fields.specs.declared.Goal.{Goal}
 use Rattle.fields.specs.declared.Length.{Length}
-use Rattle.keep_out_table.specs.Table.{keep_outs_of}
 use Rattle.keep_out.specs.declared.KeepOut.{KeepOut}
 use Rattle.mount.specs.declared.Mount.{Mount}
 use Rattle.samples.specs.Samples.{samples_of}
@@ -16,8 +15,8 @@ use Rattle.extend.specs.declared.Verdict.TheVariants as verdict
 use Rattle.route.specs.Path.{path_of}
 use Rattle.route.specs.Written.{written_of}
 use Rattle.plan.specs.Solve.{Ended, no_route}
-use Rattle.star.specs.Grow.{Reach, Costed, tree_in, grow_of}
-use Rattle.star_run.specs.declared.Ran.{Ran}
+use Rattle.plan.specs.declared.Solved.{Solved}
+use Rattle.star.specs.Grow.{Reach, plan_with, Costed, tree_of, grow_of}
 
 -- what a setup gave, without the start
 pub record StarPlan : Type 0 where
@@ -26,28 +25,13 @@ pub record StarPlan : Type 0 where
 
 -- the plan that the code's values make
 abbrev pub star_plan : Mount → Length → Length → Goal → StarPlan
-star_plan mount max radius goal =
-    record {
-      reach =
-          record {
-            limits = mount.limits;
-            segment = mount.segment.value;
-            keep_outs = keep_outs_of mount.table;
-            max = max.value;
-            radius = radius.value;
-          };
-      goal = goal;
-    }
+star_plan mount max radius goal = record { reach = plan_with mount max.value radius.value; goal = goal }
 
 -- the same under another list of keep-outs
 abbrev pub star_under : StarPlan → List KeepOut → StarPlan
 star_under p ks =
     let r = p.reach in
     record { reach = record { limits = r.limits; segment = r.segment; keep_outs = ks; max = r.max; radius = r.radius }; goal = p.goal }
-
--- the tree of a table with its column of costs
-abbrev pub tree_of : Tree → List Float → Costed
-tree_of t cost = tree_in t.count t.az t.el t.feed t.parent cost
 
 -- the newest node
 abbrev pub newest : Costed → ℕ
@@ -69,13 +53,13 @@ run_of p tree taken (s ∷ ss) =
     after_of p.goal g.tree g.verdict g.at (taken + 1) later
 
 -- what the code's run gives
-pub record Runs (mount : Mount) (max radius : Length) (goal : Goal) (rooted : Tree) (costs : List Float) (samples old : List Float) (r : Ran) (new : List Float) : Type 0 where
+pub record Runs (mount : Mount) (max radius : Length) (goal : Goal) (rooted : Tree) (costs samples old : List Float) (r : Solved) (t : Tree) (costs' new : List Float) : Type 0 where
   pub ended : Ended Costed
   pub is : ended ≡ run_of (star_plan mount max radius goal) (tree_of rooted costs) 0 (samples_of samples)
-  pub tree : tree_of r.tree r.cost ≡ ended.tables
+  pub tree : tree_of t costs' ≡ ended.tables
   pub answer : r.answer ≡ ended.answer
   pub count : r.count ≡ length ended.path
   pub taken : r.taken ≡ ended.taken
   pub memory : new ≡ written_of ended.path old
-  pub some : 0 < r.tree.count
-  pub room : r.tree.count ≤ 512
+  pub some : 0 < t.count
+  pub room : t.count ≤ 512

@@ -5,127 +5,55 @@ ghost use Rattle.std.specs.Prelude.{◌≤◌, ◌<◌, length};
 ghost use Rattle.star_run.specs.Run.{Runs};
 
 use answer::Answer;
-use columns::Columns;
 use extend::Verdict;
 use fields::{Goal, Length};
 use mount::Mount;
-use state::State;
+use plan::Solved;
 use tree::Tree;
 
-// How a run over the samples ended.
-#[derive(Clone, Copy)]
-pub struct Ran {
-    pub tree: Tree,
-    pub cost: [f64; 512],
-    pub answer: Answer,
-    pub count: usize,
-    pub taken: usize,
-}
-
 pub fn run(
-    mount: Mount,
+    tree: &mut Tree,
+    cost: &mut [f64; 512],
+    mount: &Mount,
     max: Length,
     radius: Length,
     goal: Goal,
-    rooted: Tree,
-    costs: [f64; 512],
     samples: &[f64],
     route: &mut [f64],
-) -> Ran
-    requires { (0 < rooted.count) × (rooted.count ≤ 512) × (1536 ≤ length route.old) }
-    ensures { Runs mount max radius goal rooted costs samples.now route.old result route.new }
+) -> Solved
+    requires { (0 < tree.old.count) × (tree.old.count ≤ 512) × (1536 ≤ length route.old) }
+    ensures { Runs mount.now max radius goal tree.old cost.old samples.now route.old result tree.new cost.new route.new }
 {
-    let limits = mount.limits;
-    let segment = mount.segment.value;
-    let columns = Columns::of(mount.table);
-    let rows = columns.count;
-    let mut az = rooted.az;
-    let mut el = rooted.el;
-    let mut feed = rooted.feed;
-    let mut parent = rooted.parent;
-    let mut cost = costs;
-    let mut n = rooted.count;
-    let mut found: [usize; 512] = [0; 512];
-    let mut at: usize = 0;
-    let mut taken: usize = 0;
-    'samples: while samples.len() - at >= 3 {
-        let sample = State {
-            az: samples[at],
-            el: samples[at + 1],
-            feed: samples[at + 2],
-        };
-        let g = star::grow(
-            &mut az,
-            &mut el,
-            &mut feed,
-            &mut parent,
-            &mut cost,
-            n,
-            &mut found,
-            limits,
-            segment,
-            &columns.kinds,
-            &columns.numbers,
-            rows,
-            max.value,
-            radius.value,
-            sample,
-        );
-        n = g.count;
-        taken += 1;
-        let verdict = g.verdict;
-        match verdict {
-            Verdict::Refused => {
-                at += 3;
-            }
+    let mut found = [0; 512];
+    for (i, sample) in samples.chunks_exact(3).enumerate() {
+        let taken = i + 1;
+        let s = samples::state(sample);
+        let g = star::grow(tree, cost, &mut found, mount, max.value, radius.value, s);
+        match g.verdict {
+            Verdict::Refused => {}
             Verdict::Full => {
-                return Ran {
-                    tree: Tree {
-                        az,
-                        el,
-                        feed,
-                        parent,
-                        count: n,
-                    },
-                    cost,
+                return Solved {
                     answer: Answer::Full,
                     count: 0,
                     taken,
                 };
             }
             Verdict::Added => {
-                let s = g.at;
-                if goal.is_satisfied(s) {
-                    let count = route::reconstruct_path(&az, &el, &feed, &parent, n, n - 1, route);
-                    return Ran {
-                        tree: Tree {
-                            az,
-                            el,
-                            feed,
-                            parent,
-                            count: n,
-                        },
-                        cost,
+                if goal.is_satisfied(g.at) {
+                    let newest = tree.len() - 1;
+                    let count = route::reconstruct_path(tree, newest, route);
+                    return Solved {
                         answer: Answer::Done,
                         count,
                         taken,
                     };
                 }
-                at += 3;
             }
         }
     }
-    Ran {
-        tree: Tree {
-            az,
-            el,
-            feed,
-            parent,
-            count: n,
-        },
-        cost,
+    Solved {
         answer: Answer::SamplesEnded,
         count: 0,
-        taken,
+        taken: samples.len() / 3,
     }
 }
