@@ -72,44 +72,43 @@ ends_here (suc f) nodes k after h =
     none h e = omega arith
 
 -- The search for the depth, from the node `node` of `count`: n states up to the node `at`, whose parent is `parent`, are counted.
-module _ (nodes : Nodes) (node count : ℕ) where
-  pub record Climbed (parent n : ℕ) : Type 0 where
-    pub at : ℕ
-    pub after : List State
-    pub up : parent_at nodes at ≡ parent
-    pub many : length after + 1 ≡ n
-    pub is : path_of nodes node ≡ climb_of (count - n) nodes at after
+pub record Climbed (nodes : Nodes) (node count parent n : ℕ) : Type 0 where
+  pub at : ℕ
+  pub after : List State
+  pub up : parent_at nodes at ≡ parent
+  pub many : length after + 1 ≡ n
+  pub is : path_of nodes node ≡ climb_of (count - n) nodes at after
 
-  module _ (whole : length nodes.states ≡ count) where
-    pub climb_starts : (parent : ℕ) → parent_at nodes node ≡ parent → Climbed parent 1
-    unfolding path_of
-    climb_starts parent e = record { at = node; after = []; up = e; many = refl; is = rw whole }
+module _ {nodes : Nodes} {count : ℕ} (whole : length nodes.states ≡ count) where
+  pub climb_starts : {node parent : ℕ} → parent_at nodes node ≡ parent → Climbed nodes node count parent 1
+  unfolding path_of
+  climb_starts {node} e = record { at = node; after = []; up = e; many = refl; is = rw whole }
 
-    module _ (parent n : ℕ) (w : Climbed parent n) where
-      -- one step up
-      pub climb_turn : (p : ℕ) → n < count → parent < count → parent_at nodes parent ≡ p → Climbed p (n + 1)
-      climb_turn p h l e =
-          let f : count - n ≡ suc (count - (n + 1)) = omega arith in
-          let l' : parent_at nodes w.at < length nodes.states = rw w.up (omega arith) in
-          record {
-            at = parent;
-            after = state_at nodes.states w.at ∷ w.after;
-            up = e;
-            many = omega (arith, w.many);
-            is = w.is ∙ ap (λ (x : ℕ). climb_of x nodes w.at w.after) f ∙ climb_up nodes w.at w.after (count - (n + 1)) l'
-                ∙ ap (λ (x : ℕ). climb_of (count - (n + 1)) nodes x (state_at nodes.states w.at ∷ w.after)) w.up;
-          }
+  module _ {node parent n : ℕ} (w : Climbed nodes node count parent n) where
+    -- one step up
+    pub climb_turn : {p : ℕ} → n < count → parent < count → parent_at nodes parent ≡ p → Climbed nodes node count p (n + 1)
+    climb_turn h l e =
+        let f : count - n ≡ suc (count - (n + 1)) = omega arith in
+        let l' : parent_at nodes w.at < length nodes.states = rw w.up (omega arith) in
+        record {
+          at = parent;
+          after = state_at nodes.states w.at ∷ w.after;
+          up = e;
+          many = omega (arith, w.many);
+          is = w.is ∙ ap (λ (x : ℕ). climb_of x nodes w.at w.after) f ∙ climb_up nodes w.at w.after (count - (n + 1)) l'
+              ∙ ap (λ (x : ℕ). climb_of (count - (n + 1)) nodes x (state_at nodes.states w.at ∷ w.after)) w.up;
+        }
 
-      climbed : n ≤ count → path_of nodes node ≡ state_at nodes.states w.at ∷ w.after → Depth nodes node n
-      climbed h e = record { is = sym (ap length e ∙ omega (arith, w.many)); some = omega (arith, w.many); few = omega arith }
+    climbed : n ≤ count → path_of nodes node ≡ state_at nodes.states w.at ∷ w.after → Depth nodes node n
+    climbed h e = record { is = sym (ap length e ∙ omega (arith, w.many)); some = omega (arith, w.many); few = omega arith }
 
-      -- at a parent that is no node, or after all nodes
-      pub climb_ends : n ≤ count → count ≤ parent → Depth nodes node n
-      climb_ends h l =
-          let past : length nodes.states ≤ parent_at nodes w.at = rw w.up (omega arith) in
-          climbed h (w.is ∙ climb_top nodes w.at w.after (count - n) past)
+    -- at a parent that is no node, or after all nodes
+    pub climb_ends : n ≤ count → count ≤ parent → Depth nodes node n
+    climb_ends h l =
+        let past : length nodes.states ≤ parent_at nodes w.at = rw w.up (omega arith) in
+        climbed h (w.is ∙ climb_top nodes w.at w.after (count - n) past)
 
-      pub climb_all : n ≡ count → Depth nodes node count
-      climb_all e =
-          let none : count - n ≡ 0 = omega arith in
-          subst (Depth nodes node) e (climbed (omega arith) (w.is ∙ ap (λ (x : ℕ). climb_of x nodes w.at w.after) none ∙ climb_out nodes w.at w.after))
+    pub climb_all : n ≡ count → Depth nodes node count
+    climb_all e =
+        let none : count - n ≡ 0 = omega arith in
+        subst (Depth nodes node) e (climbed (omega arith) (w.is ∙ ap (λ (x : ℕ). climb_of x nodes w.at w.after) none ∙ climb_out nodes w.at w.after))

@@ -49,65 +49,65 @@ placed_behind old from k s done out len room e =
     flat_one s = unfold flat_of in refl
 
 -- The way up from the node `node` of `count`: k states are written, the last of them that of the node `at`, whose parent is `parent`.
-module _ (nodes : Nodes) (node count from : ℕ) (old : List Float) where
-  pub record Upped (parent k : ℕ) (out : List Float) : Type 0 where
-    pub at : ℕ
-    pub done : List State
-    pub up : parent_at nodes at ≡ parent
-    pub many : length done ≡ k
-    pub is : upwards_of nodes node ≡ done ++ ancestors_of (count - 1 - k) nodes at
-    pub memory : out ≡ take (3 * from) old ++ (flat_of done ++ drop (3 * (from + k)) old)
+pub record Upped (nodes : Nodes) (node count from : ℕ) (old : List Float) (parent k : ℕ) (out : List Float) : Type 0 where
+  pub at : ℕ
+  pub done : List State
+  pub up : parent_at nodes at ≡ parent
+  pub many : length done ≡ k
+  pub is : upwards_of nodes node ≡ done ++ ancestors_of (count - 1 - k) nodes at
+  pub memory : out ≡ take (3 * from) old ++ (flat_of done ++ drop (3 * (from + k)) old)
 
-  module _ (whole : length nodes.states ≡ count) where
-    pub up_starts : (parent : ℕ) → parent_at nodes node ≡ parent → Upped parent 0 old
-    unfolding upwards_of flat_of
-    up_starts parent e =
-        let z : 3 * (from + 0) ≡ 3 * from = omega arith in
-        let y : count - 1 - 0 ≡ count - 1 = omega arith in
-        record { at = node; done = []; up = e; many = refl; is = rw (whole, y); memory = sym (rw z (take-append-drop (3 * from) old)) }
+module _ {nodes : Nodes} {count : ℕ} (whole : length nodes.states ≡ count) where
+  pub up_starts : {node from : ℕ} {old : List Float} {parent : ℕ} → parent_at nodes node ≡ parent → Upped nodes node count from old parent 0 old
+  unfolding upwards_of flat_of
+  up_starts {node} {from} {old} e =
+      let z : 3 * (from + 0) ≡ 3 * from = omega arith in
+      let y : count - 1 - 0 ≡ count - 1 = omega arith in
+      record { at = node; done = []; up = e; many = refl; is = rw (whole, y); memory = sym (rw z (take-append-drop (3 * from) old)) }
 
-    module _ (parent k : ℕ) (out : List Float) (w : Upped parent k out) where
-      -- one step up, to a parent that is a node
-      goes_on : k + 1 < count → parent < count → ancestors_of (count - 1 - k) nodes w.at ≡ state_at nodes.states parent ∷ ancestors_of (count - 1 - (k + 1)) nodes parent
+  module _ {node from : ℕ} {old : List Float} {parent k : ℕ} {out : List Float} (w : Upped nodes node count from old parent k out) where
+    -- one step up, to a parent that is a node
+    module _ (h : k + 1 < count) (l : parent < count) where
+      goes_on : ancestors_of (count - 1 - k) nodes w.at ≡ state_at nodes.states parent ∷ ancestors_of (count - 1 - (k + 1)) nodes parent
       unfolding ancestors_of
-      goes_on h l = let f : count - 1 - k ≡ suc (count - 1 - (k + 1)) = omega arith in rw (f, w.up, whole, lt-ltb parent count l)
+      goes_on = let f : count - 1 - k ≡ suc (count - 1 - (k + 1)) = omega arith in rw (f, w.up, whole, lt-ltb parent count l)
 
       pub up_turn :
-          (p : ℕ) (s : State) (new : List Float) → k + 1 < count → parent < count → 3 * from ≤ length old → parent_at nodes parent ≡ p → state_at nodes.states parent ≡ s →
-          new ≡ put_of out (3 * (from + k)) s → Upped p (k + 1) new
-      up_turn p s new h l room e is-s n =
+          {p : ℕ} {s : State} {new : List Float} → 3 * from ≤ length old → parent_at nodes parent ≡ p → state_at nodes.states parent ≡ s →
+          new ≡ put_of out (3 * (from + k)) s → Upped nodes node count from old p (k + 1) new
+      up_turn {p} {s} {new} room e is-s n =
           let rest = ancestors_of (count - 1 - (k + 1)) nodes parent in
           record {
             at = parent;
             done = w.done ++ (s ∷ []);
             up = e;
             many = omega (arith, length-append w.done (s ∷ []), w.many);
-            is = w.is ∙ ap (λ (l : List State). w.done ++ l) (goes_on h l) ∙ ap (λ (x : State). w.done ++ (x ∷ rest)) is-s ∙ sym (append_assoc w.done (s ∷ []) rest);
+            is = w.is ∙ ap (λ (l : List State). w.done ++ l) goes_on ∙ ap (λ (x : State). w.done ++ (x ∷ rest)) is-s ∙ sym (append_assoc w.done (s ∷ []) rest);
             memory = n ∙ placed_behind old from k s w.done out w.many room w.memory;
           }
 
-      upped : k < count → ancestors_of (count - 1 - k) nodes w.at ≡ [] → Appended nodes node from old k out
-      upped h e =
-          let all : upwards_of nodes node ≡ w.done = w.is ∙ ap (λ (l : List State). w.done ++ l) e ∙ append-nil w.done in
-          record {
-            count = sym (ap length all ∙ w.many);
-            memory = w.memory ∙ ap (λ (l : List State). take (3 * from) old ++ (flat_of l ++ drop (3 * (from + k)) old)) (sym all);
-            few = omega arith;
-          }
+    upped : k < count → ancestors_of (count - 1 - k) nodes w.at ≡ [] → Appended nodes node from old k out
+    upped h e =
+        let all : upwards_of nodes node ≡ w.done = w.is ∙ ap (λ (l : List State). w.done ++ l) e ∙ append-nil w.done in
+        record {
+          count = sym (ap length all ∙ w.many);
+          memory = w.memory ∙ ap (λ (l : List State). take (3 * from) old ++ (flat_of l ++ drop (3 * (from + k)) old)) (sym all);
+          few = omega arith;
+        }
 
-      -- at a parent that is no node, or after all other nodes
-      pub up_ends : k < count → count ≤ parent → Appended nodes node from old k out
-      up_ends h l = upped h (none (count - 1 - k))
-        where
-          none : (f : ℕ) → ancestors_of f nodes w.at ≡ []
-          none zero = unfold ancestors_of in refl
-          none (suc f) = unfold ancestors_of in rw (w.up, whole, le-ltb parent count l)
+    -- at a parent that is no node, or after all other nodes
+    pub up_ends : k < count → count ≤ parent → Appended nodes node from old k out
+    up_ends h l = upped h (none (count - 1 - k))
+      where
+        none : (f : ℕ) → ancestors_of f nodes w.at ≡ []
+        none zero = unfold ancestors_of in refl
+        none (suc f) = unfold ancestors_of in rw (w.up, whole, le-ltb parent count l)
 
-      pub up_all : (n : ℕ) → k ≡ n → n + 1 ≡ count → Appended nodes node from old n out
-      unfolding ancestors_of
-      up_all n e q =
-          let f : count - 1 - k ≡ 0 = omega arith in
-          subst (λ (x : ℕ). Appended nodes node from old x out) e (upped (omega arith) (rw f))
+    pub up_all : {n : ℕ} → k ≡ n → n + 1 ≡ count → Appended nodes node from old n out
+    unfolding ancestors_of
+    up_all e q =
+        let f : count - 1 - k ≡ 0 = omega arith in
+        subst (λ (x : ℕ). Appended nodes node from old x out) e (upped (omega arith) (rw f))
 
 -- a route with another behind it
 pub written_on :

@@ -22,7 +22,7 @@ module _ (t : Tree) where
     pub nodes_many : length (nodes_of t).states ≡ t.count
     nodes_many = nodes_length t room
 
-    module _ (k : ℕ) (d : Node) (h : k < t.count) where
+    module _ {k : ℕ} (h : k < t.count) (d : Node) where
       pub state_in : state_at (nodes_of t).states k ≡ (get_or t.nodes k d).state
       state_in = ap (λ (l : List State). state_at l k) (states_are t) ∙ state_is t room k d h
 

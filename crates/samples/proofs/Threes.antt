@@ -1,11 +1,9 @@
 -- A list of samples read from the front, three numbers at a time.
-use Prim.Native.Nat.{ℕ, suc, ◌+◌, ◌*◌, ◌^◌, ◌/◌, ◌≤◌, ◌<◌}
+use Prim.Native.Nat.{ℕ, suc, ◌+◌, ◌*◌, ◌^◌, ◌/◌, ◌<◌}
 use mathlib.Core.List.{List, [], ◌∷◌, ◌++◌}
 use mathlib.Core.Path.{◌≡◌, refl, ◌∙◌, ap}
 use native.Mathlib.Omega.{arith}
-use lib.ListN.{length, drop, get_or, length-append, length-drop}
-use lib.Seq.{drop-cons}
-use native.Mathlib.Numerals.{add-one}
+use lib.ListN.{length, length-append}
 use lib.Ieee.{Float}
 use Rattle.samples.specs.Samples.{samples_of, sample_of}
 
@@ -66,24 +64,3 @@ module _ {list : List Float} {size k : ℕ} {rest : List Float} (w : Walked list
 
     pub walk_ends : k ≡ length list / 3
     walk_ends = omega (arith, w.all, w.three)
-
--- one element more of what is left, at `i + 1`
-pub more : (l : List Float) (i : ℕ) (d : Float) → i < length l → drop i l ≡ get_or l i d ∷ drop (i + 1) l
-more l i d h = rw (add-one, drop-cons l i d)
-
--- the next sample, and those after it
-pub three :
-    (l : List Float) (i : ℕ) (a b c : Float) → i + 3 ≤ length l →
-    samples_of (drop i l) ≡ record { az = get_or l i a; el = get_or l (i + 1) b; feed = get_or l (i + 2) c } ∷ samples_of (drop (i + 3) l)
-unfolding samples_of
-three l i a b c h =
-    let e₀ = more l i a (omega arith) in
-    let e₁ : drop (i + 1) l ≡ get_or l (i + 1) b ∷ drop (i + 1 + 1) l = more l (i + 1) b (omega arith) in
-    let e₂ : drop (i + 1 + 1) l ≡ get_or l (i + 1 + 1) c ∷ drop (i + 1 + 1 + 1) l = more l (i + 1 + 1) c (omega arith) in
-    let p : i + 1 + 1 ≡ i + 2 = omega arith in
-    let q : i + 2 + 1 ≡ i + 3 = omega arith in
-    rw (e₀, e₁, e₂, p, q)
-
--- where no sample is left at i
-pub fewer : (l : List Float) (i : ℕ) → length l < i + 3 → i ≤ length l → samples_of (drop i l) ≡ []
-fewer l i h k = no_sample (drop i l) (omega (arith, length-drop i l))

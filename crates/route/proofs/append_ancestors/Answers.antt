@@ -11,25 +11,24 @@ pub loop-k-init : goal.loop-k-init
 loop-k-init c =
     let t = c.args.tree.now in
     let sized : length t.nodes ≡ 512 = search (mapped, rules) in
-    up_starts _ _ _ _ _ (nodes_many t sized c.requires.1) _ (parent_in t sized c.requires.1 _ _ c.requires.0)
+    up_starts (nodes_many t sized c.requires.1) (parent_in t sized c.requires.1 c.requires.0 _)
 
 pub loop-k-preserved : goal.loop-k-preserved
 loop-k-preserved c =
     let t = c.args.tree.now in
     let sized : length t.nodes ≡ 512 = search (mapped, rules) in
-    let node = c.if-tree-here.false in
-    let is-p = parent_in t sized c.requires.1 _ _ node in
-    let is-s = state_in t sized c.requires.1 _ _ node in
-    up_turn _ _ _ _ _ (nodes_many t sized c.requires.1) _ _ _ c.loop-k.invariant _ _ _ (omega arith) node (omega arith) is-p is-s c.put.ensures
+    let up = c.if-tree-here.false in
+    up_turn (nodes_many t sized c.requires.1) c.loop-k.invariant (omega arith) up (omega arith)
+    (parent_in t sized c.requires.1 up _) (state_in t sized c.requires.1 up _) c.put.ensures
 
 pub returns-then-tree-here : goal.returns-then-tree-here
 returns-then-tree-here c =
     let t = c.args.tree.now in
     let sized : length t.nodes ≡ 512 = search (mapped, rules) in
-    up_ends _ _ _ _ _ (nodes_many t sized c.requires.1) _ _ _ c.loop-k.invariant (omega arith) c.if-tree-here.true
+    up_ends (nodes_many t sized c.requires.1) c.loop-k.invariant (omega arith) c.if-tree-here.true
 
 pub returns : goal.returns
 returns c =
     let t = c.args.tree.now in
     let sized : length t.nodes ≡ 512 = search (mapped, rules) in
-    up_all _ _ _ _ _ (nodes_many t sized c.requires.1) _ _ _ c.loop-k.invariant _ (omega arith) (omega arith)
+    up_all (nodes_many t sized c.requires.1) c.loop-k.invariant (omega arith) (omega arith)

@@ -11,23 +11,23 @@ pub loop-n-init : goal.loop-n-init
 loop-n-init c =
     let t = c.args.tree.now in
     let sized : length t.nodes ≡ 512 = search (mapped, rules) in
-    climb_starts _ _ _ (nodes_many t sized c.requires.1) _ (parent_in t sized c.requires.1 _ _ c.requires.0)
+    climb_starts (nodes_many t sized c.requires.1) (parent_in t sized c.requires.1 c.requires.0 _)
 
 pub loop-n-preserved : goal.loop-n-preserved
 loop-n-preserved c =
     let t = c.args.tree.now in
     let sized : length t.nodes ≡ 512 = search (mapped, rules) in
-    let node = c.if-tree-parent.false in
-    climb_turn _ _ _ (nodes_many t sized c.requires.1) _ _ c.loop-n.invariant _ c.loop-n-test.true node (parent_in t sized c.requires.1 _ _ node)
+    let up = c.if-tree-parent.false in
+    climb_turn (nodes_many t sized c.requires.1) c.loop-n.invariant c.loop-n-test.true up (parent_in t sized c.requires.1 up _)
 
 pub returns-then-tree-parent : goal.returns-then-tree-parent
 returns-then-tree-parent c =
     let t = c.args.tree.now in
     let sized : length t.nodes ≡ 512 = search (mapped, rules) in
-    climb_ends _ _ _ (nodes_many t sized c.requires.1) _ _ c.loop-n.invariant (omega arith) c.if-tree-parent.true
+    climb_ends (nodes_many t sized c.requires.1) c.loop-n.invariant (omega arith) c.if-tree-parent.true
 
 pub returns : goal.returns
 returns c =
     let t = c.args.tree.now in
     let sized : length t.nodes ≡ 512 = search (mapped, rules) in
-    climb_all _ _ _ (nodes_many t sized c.requires.1) _ _ c.loop-n.invariant (omega arith)
+    climb_all (nodes_many t sized c.requires.1) c.loop-n.invariant (omega arith)
