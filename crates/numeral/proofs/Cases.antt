@@ -4,12 +4,12 @@ use mathlib.Core.Path.{◌≡◌, ◌∙◌, ap}
 use Prim.Native.Nat.{ℕ, ◌^◌, ◌≤◌, ◌<◌}
 use native.Mathlib.Nat.{pow-le-pow_right, le_trans, lt_of_lt_of_le}
 use native.Mathlib.Omega.{arith}
-use borrow.Author.Tests.{le-leb, lt-leb, lt-ltb, le-ltb}
+use borrow.Author.Tests.{le-leb, lt-ltb}
 use lib.Dec.{T, le→leb, lit≤, lit<}
 use lib.IntN.{pos}
 use lib.Ieee.{binary64, in_float, of_int, div, neg, round}
+use Rattle.std.specs.Prelude.{Some}
 use Rattle.numeral.specs.Decimal.{short_of, decimal_of}
-use Rattle.numeral.specs.declared.NumeralMade.TheVariants.{Good, Bad}
 use Rattle.numeral.proofs.Rounding.{one_division_rounds_once, negated_rounding}
 
 -- ---- the powers of ten are whole numbers that a binary64 holds
@@ -23,30 +23,21 @@ pub exact : (n : ℕ) → n ≤ 2 ^ 53 → T (in_float binary64 (pos n))
 unfolding in_float
 exact n h = le→leb n (2 ^ 53) h
 
--- ---- the cases
-module _ (digits places : ℕ) where
-  is_short : digits < 10 ^ 15 → places ≤ 15 → short_of digits places ≡ true
+-- ---- the value of a numeral that is short
+module _ (digits places : ℕ) (h : digits < 10 ^ 15) (k : places ≤ 15) (p : ℕ) (e : p ≡ 10 ^ places) where
+  is_short : short_of digits places ≡ true
   unfolding short_of
-  is_short h k = rw (lt-ltb digits (10 ^ 15) h, le-leb places 15 k)
+  is_short = rw (lt-ltb digits (10 ^ 15) h, le-leb places 15 k)
 
-  pub too_many_digits : (s : _) → 10 ^ 15 ≤ digits → Bad ≡ decimal_of s digits places
-  unfolding short_of decimal_of
-  too_many_digits s h = rw (le-ltb digits (10 ^ 15) h)
+  value_is : div binary64 (of_int binary64 (pos digits)) (of_int binary64 (pos p)) ≡ round binary64 false digits (10 ^ places)
+  value_is =
+      ap (λ (q : ℕ). div binary64 (of_int binary64 (pos digits)) (of_int binary64 (pos q))) e
+      ∙ one_division_rounds_once digits (10 ^ places) (omega arith) (power_small places k) (power_above_zero places)
 
-  pub too_many_places : (s : _) → digits < 10 ^ 15 → 15 < places → Bad ≡ decimal_of s digits places
-  unfolding short_of decimal_of
-  too_many_places s h k = rw (lt-ltb digits (10 ^ 15) h, lt-leb places 15 k)
+  pub plain : Some (div binary64 (of_int binary64 (pos digits)) (of_int binary64 (pos p))) ≡ decimal_of false digits places
+  unfolding decimal_of
+  plain = rw is_short (ap Some value_is)
 
-  module _ (h : digits < 10 ^ 15) (k : places ≤ 15) (p : ℕ) (e : p ≡ 10 ^ places) where
-    value_is : div binary64 (of_int binary64 (pos digits)) (of_int binary64 (pos p)) ≡ round binary64 false digits (10 ^ places)
-    value_is =
-        ap (λ (q : ℕ). div binary64 (of_int binary64 (pos digits)) (of_int binary64 (pos q))) e
-        ∙ one_division_rounds_once digits (10 ^ places) (omega arith) (power_small places k) (power_above_zero places)
-
-    pub plain : Good (div binary64 (of_int binary64 (pos digits)) (of_int binary64 (pos p))) ≡ decimal_of false digits places
-    unfolding decimal_of
-    plain = rw (is_short h k) (ap Good value_is)
-
-    pub negated : Good (neg (div binary64 (of_int binary64 (pos digits)) (of_int binary64 (pos p)))) ≡ decimal_of true digits places
-    unfolding decimal_of
-    negated = rw (is_short h k) (ap Good (ap neg value_is ∙ negated_rounding binary64 digits (10 ^ places)))
+  pub negated : Some (neg (div binary64 (of_int binary64 (pos digits)) (of_int binary64 (pos p)))) ≡ decimal_of true digits places
+  unfolding decimal_of
+  negated = rw is_short (ap Some (ap neg value_is ∙ negated_rounding binary64 digits (10 ^ places)))
