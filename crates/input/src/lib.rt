@@ -1,87 +1,81 @@
-// Standard input, byte after byte, through a buffer that the caller lends.
+// Standard input, byte after byte, through a buffer.
 #![tactic(auto)]
 
-ghost use Rattle.std.specs.Prelude.{◌≡◌};
-ghost use Rattle.input.specs.Input.{new_of, next_of};
+ghost use Rattle.std.specs.Prelude.{◌≡◌, ◌<◌, ◌≤◌, length, slice_index};
 
 use std::io::{Read, Stdin};
 
-// More bytes than any input has: what a loop over input counts down from, so that it is seen to end.
+// More turns than any input has bytes: what a loop over input takes at most, so that it is seen to end.
 pub const MOST: u64 = 0x4000_0000_0000_0000;
 
 // The bytes from at to end of the buffer are still to be read.
-#[derive(Clone, Copy)]
-pub struct Input {
-    pub at: usize,
-    pub end: usize,
-    pub ended: bool,
+#[derive(Drop)]
+pub struct Reader {
+    stdin: Stdin,
+    bytes: [u8; 65536],
+    at: usize,
+    end: usize,
+    ended: bool,
+    ghost within: { end ≤ length bytes },
 }
 
-// The next byte, which is not passed yet.
-#[derive(Clone, Copy)]
-pub struct Peeked {
-    pub byte: u8,
-    pub input: Input,
-}
+impl Reader {
+    ghost use Rattle.input.specs.Place.{place_of, new_of, next_of};
 
-impl Input {
     // Before the first byte.
-    pub fn new() -> Input
-        ensures { result ≡ new_of }
+    #[tactic(auto, unfolding(crate::specs::Place::new_of))]
+    pub fn new(stdin: Stdin) -> Reader
+        ensures { place_of result ≡ new_of }
     {
-        Input {
+        Reader {
+            stdin,
+            bytes: [0; 65536],
             at: 0,
             end: 0,
             ended: false,
         }
     }
 
+    // With bytes to read, unless the input has ended. A read that fails ends it.
+    fn fill(&mut self)
+        ensures { self.old.at < self.old.end → self.new ≡ self.old }
+    {
+        if self.at < self.end || self.ended {
+            return;
+        }
+        self.at = 0;
+        self.end = self.stdin.read(&mut self.bytes).unwrap_or(0);
+        self.ended = self.end == 0;
+    }
+
+    // The next byte, which is not passed yet. The end of the input reads as a line's end, which may be missing there.
+    pub fn peek(&mut self) -> u8
+        ensures kept { self.old.at < self.old.end → self.new ≡ self.old }
+        ensures byte { self.new.at < self.new.end → result ≡ slice_index self.new.bytes self.new.at }
+        ensures ending { self.new.end ≤ self.new.at → result ≡ 10 }
+    {
+        self.fill();
+        if self.end <= self.at {
+            return b'\n';
+        }
+        self.bytes[self.at]
+    }
+
     // Past the next byte. The end of the input is not passed.
-    pub fn next(self) -> Input
-        ensures { result ≡ next_of self }
+    #[tactic(auto, using(std::proofs::lemmas::Bool::Decides::nat_tests), unfolding(crate::specs::Place::next_of))]
+    pub fn next(&mut self)
+        ensures place { place_of self.new ≡ next_of (place_of self.old) }
+        ensures bytes { self.new.bytes ≡ self.old.bytes }
     {
         if self.at < self.end {
-            return Input {
-                at: self.at + 1,
-                end: self.end,
-                ended: self.ended,
-            };
-        }
-        self
-    }
-}
-
-// With bytes to read, unless the input has ended. A read that fails ends it.
-fn filled(stdin: Stdin, bytes: &mut [u8], input: Input) -> Input {
-    if input.ended {
-        return input;
-    }
-    if input.at < input.end {
-        return input;
-    }
-    let mut stdin = stdin;
-    let end = match stdin.read(bytes) {
-        Ok(count) => count,
-        Err(_) => 0,
-    };
-    Input {
-        at: 0,
-        end,
-        ended: end == 0,
-    }
-}
-
-// The end of the input reads as a line's end, which may be missing there.
-pub fn peek(stdin: Stdin, bytes: &mut [u8], input: Input) -> Peeked {
-    let input = filled(stdin, bytes, input);
-    let at = input.at;
-    if at < input.end {
-        if at < bytes.len() {
-            return Peeked {
-                byte: bytes[at],
-                input,
-            };
+            self.at += 1;
         }
     }
-    Peeked { byte: b'\n', input }
+
+    // Whether all of the input has been read.
+    pub fn has_ended(&self) -> bool
+        ensures { result ≡ self.now.ended }
+    {
+        self.ended
+    }
 }
