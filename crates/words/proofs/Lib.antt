@@ -1,5 +1,4 @@
+mod Patterns
 mod Runs
-mod Lists
 mod Cases
 mod Numerals
-mod Patterns

@@ -1,82 +1,82 @@
 // The words of a line: bytes that stand apart by spaces or tabs. `#` starts a comment that runs to the line's end.
-ghost use Rattle.io.specs.Counts.{IsPrefixLen};
+ghost use Rattle.std.specs.Prelude.{◌≡◌, ◌<◌, ◌≤◌, IfSome, length, take};
 
-use input::Input;
-use std::io::Stdin;
+use input::Reader;
 
-// A word, and the input after it. The longest word that a call can have is 17 bytes long, so one that is cut at 18 fits no call. No
-// bytes: the line has no more words.
+// The longest word that a call can have is 17 bytes long, so one that is cut at 18 fits no call.
 #[derive(Clone, Copy)]
 pub struct Word {
-    pub text: [u8; 18],
-    pub len: usize,
-    pub input: Input,
+    bytes: [u8; 18],
+    len: usize,
+    ghost within: { len ≤ length bytes },
+}
+
+impl Word {
+    fn new() -> Word
+        ensures { result.len ≡ 0 }
+    {
+        Word {
+            bytes: [0; 18],
+            len: 0,
+        }
+    }
+
+    // With a byte more, if there is room.
+    fn push(&mut self, byte: u8) {
+        if self.len < self.bytes.len() {
+            self.bytes[self.len] = byte;
+            self.len += 1;
+        }
+    }
+
+    pub fn text(&self) -> &[u8]
+        ensures { result.now ≡ take self.now.len self.now.bytes }
+    {
+        &self.bytes[..self.len]
+    }
 }
 
 fn is_blank(byte: u8) -> bool {
-    match byte {
-        b' ' | b'\t' => true,
-        _ => false,
-    }
+    matches!(byte, b' ' | b'\t')
 }
 
 fn ends_word(byte: u8) -> bool {
-    match byte {
-        b' ' | b'\t' | b'\n' | b'#' => true,
-        _ => false,
-    }
+    matches!(byte, b' ' | b'\t' | b'\n' | b'#')
 }
 
-fn after_blanks(stdin: Stdin, bytes: &mut [u8], input: Input) -> Input {
-    let mut input = input;
-    let mut turns = input::MOST;
-    while turns > 0 {
-        let p = input::peek(stdin, bytes, input);
-        input = p.input;
-        if !is_blank(p.byte) {
-            return input;
+fn skip_blanks(reader: &mut Reader) {
+    for _ in 0..input::MOST {
+        if !is_blank(reader.peek()) {
+            return;
         }
-        input = input.next();
-        turns -= 1;
+        reader.next();
     }
-    input
 }
 
-pub fn next(stdin: Stdin, bytes: &mut [u8], input: Input) -> Word
-    ensures { IsPrefixLen result.len result.text }
+// The line's next word, if it has one more.
+pub fn next(reader: &mut Reader) -> Option<Word>
+    ensures { IfSome result (λ word. 0 < word.len) }
 {
-    let mut input = after_blanks(stdin, bytes, input);
-    let mut text = [0u8; 18];
-    let mut len: usize = 0;
-    let mut turns = input::MOST;
-    while turns > 0 {
-        let p = input::peek(stdin, bytes, input);
-        input = p.input;
-        if ends_word(p.byte) {
-            return Word { text, len, input };
+    skip_blanks(reader);
+    let mut word = Word::new();
+    for _ in 0..input::MOST {
+        let byte = reader.peek();
+        if ends_word(byte) {
+            break;
         }
-        if len < 18 {
-            text[len] = p.byte;
-            len += 1;
-        }
-        input = input.next();
-        turns -= 1;
+        word.push(byte);
+        reader.next();
     }
-    Word { text, len, input }
+    if word.len == 0 { None } else { Some(word) }
 }
 
 // Past the line's end, whatever the line still has.
-pub fn after_line(stdin: Stdin, bytes: &mut [u8], input: Input) -> Input {
-    let mut input = input;
-    let mut turns = input::MOST;
-    while turns > 0 {
-        let p = input::peek(stdin, bytes, input);
-        let here = p.input;
-        input = here.next();
-        if p.byte == b'\n' {
-            return input;
+pub fn skip_line(reader: &mut Reader) {
+    for _ in 0..input::MOST {
+        let byte = reader.peek();
+        reader.next();
+        if byte == b'\n' {
+            return;
         }
-        turns -= 1;
     }
-    input
 }
