@@ -1,7 +1,7 @@
 -- What a call of a script leaves of its planner, by its verb. Each planner's calls say what its setup, its solve and the others leave.
 use Rattle.std.specs.Prelude.{Bool, true, false}
 use Rattle.grammar.specs.declared.Verb.{Verb}
-use Rattle.grammar.specs.declared.Verb.TheVariants.{Setup, Keepout, Solve, Construct, Goals, Query, Tables, Distance, Between, Steer, Valid, Steps, Motion, Other}
+use Rattle.grammar.specs.declared.Verb.TheVariants.{Setup, Keepout, Solve, Construct, Goals, Query, Tables, Distance, Between, Steer, Valid, Steps, Motion}
 
 -- whether the call was made, and the planner after it
 pub record Left (A : Type 0) : Type 0 where
@@ -30,7 +30,6 @@ tree_call before setup keepout solved Steer = no_call before
 tree_call before setup keepout solved Valid = no_call before
 tree_call before setup keepout solved Steps = no_call before
 tree_call before setup keepout solved Motion = no_call before
-tree_call before setup keepout solved Other = no_call before
 
 -- PRM's: before it, and after a setup, a keep-out, a construction, and start and goal replaced; a query changes nothing
 unfoldable pub prm_call : {A : Type 0} → A → A → A → A → A → Verb → Left A
@@ -47,4 +46,3 @@ prm_call before setup keepout constructed goals Steer = no_call before
 prm_call before setup keepout constructed goals Valid = no_call before
 prm_call before setup keepout constructed goals Steps = no_call before
 prm_call before setup keepout constructed goals Motion = no_call before
-prm_call before setup keepout constructed goals Other = no_call before

@@ -1,11 +1,13 @@
 -- The call scripts, "Input": the table of lines, as what follows the two words of each. A planner's verb that has no line is no call.
 -- `P` there is a planner, so that `mount keepout` and `mount tables` are none.
-use Rattle.std.specs.Prelude.{ℕ, ◌+◌, Bool, true, false}
+use Rattle.std.specs.Prelude.{ℕ, ◌+◌, Bool, true, false, Option, Some, None}
+use Rattle.grammar.specs.declared.Numbers.{Numbers}
+use Rattle.grammar.specs.declared.Numbers.TheVariants.{Exactly, Any}
 use Rattle.grammar.specs.declared.Planner.{Planner}
-use Rattle.grammar.specs.declared.Planner.TheVariants.{Mount, Rrt, Connect, Star, Prm, Other as OtherPlanner}
+use Rattle.grammar.specs.declared.Planner.TheVariants.{Mount, Rrt, Connect, Star, Prm}
 use Rattle.grammar.specs.declared.Row.{Row}
 use Rattle.grammar.specs.declared.Verb.{Verb}
-use Rattle.grammar.specs.declared.Verb.TheVariants.{Setup, Keepout, Solve, Construct, Goals, Query, Tables, Distance, Between, Steer, Valid, Steps, Motion, Other}
+use Rattle.grammar.specs.declared.Verb.TheVariants.{Setup, Keepout, Solve, Construct, Goals, Query, Tables, Distance, Between, Steer, Valid, Steps, Motion}
 
 -- ---- how many numbers a part of a line is
 -- low then high, per axis
@@ -37,120 +39,72 @@ T = 1
 -- ---- what follows the words
 -- so many numbers, then `KO*`: a line has at most 40 keep-outs
 abbrev pub setup_row : ℕ → Row
-setup_row n =
-    record {
-      is_call = true;
-      has_capacity = false;
-      numbers = n;
-      has_list = false;
-      least_keep_outs = 0;
-      most_keep_outs = 40;
-    }
+setup_row n = record { has_capacity = false; numbers = Exactly n; least_keep_outs = 0; most_keep_outs = 40 }
 
 -- so many numbers
 abbrev pub numbers_row : ℕ → Row
-numbers_row n =
-    record {
-      is_call = true;
-      has_capacity = false;
-      numbers = n;
-      has_list = false;
-      least_keep_outs = 0;
-      most_keep_outs = 0;
-    }
+numbers_row n = record { has_capacity = false; numbers = Exactly n; least_keep_outs = 0; most_keep_outs = 0 }
 
--- `CAP` or not, then `NUMBER*` or not
-abbrev pub list_row : Bool → Bool → Row
-list_row capacity list =
-    record {
-      is_call = true;
-      has_capacity = capacity;
-      numbers = 0;
-      has_list = list;
-      least_keep_outs = 0;
-      most_keep_outs = 0;
-    }
+-- `CAP` or not, then numbers
+abbrev pub list_row : Bool → Numbers → Row
+list_row capacity numbers = record { has_capacity = capacity; numbers = numbers; least_keep_outs = 0; most_keep_outs = 0 }
 
 -- `KO`
 abbrev pub keep_out_row : Row
-keep_out_row =
-    record {
-      is_call = true;
-      has_capacity = false;
-      numbers = 0;
-      has_list = false;
-      least_keep_outs = 1;
-      most_keep_outs = 1;
-    }
-
--- no call
-abbrev pub no_row : Row
-no_row =
-    record {
-      is_call = false;
-      has_capacity = false;
-      numbers = 0;
-      has_list = false;
-      least_keep_outs = 0;
-      most_keep_outs = 0;
-    }
+keep_out_row = record { has_capacity = false; numbers = Exactly 0; least_keep_outs = 1; most_keep_outs = 1 }
 
 -- ---- the lines
 -- `mount`
-unfoldable pub mount_row : Verb → Row
-mount_row Setup = setup_row (LIM + SEG)
-mount_row Distance = numbers_row (S + S)
-mount_row Between = numbers_row (S + S + T)
-mount_row Steer = numbers_row (MAX + S + S)
-mount_row Valid = numbers_row S
-mount_row Steps = numbers_row (S + S)
-mount_row Motion = numbers_row (S + S)
-mount_row Keepout = no_row
-mount_row Solve = no_row
-mount_row Construct = no_row
-mount_row Goals = no_row
-mount_row Query = no_row
-mount_row Tables = no_row
-mount_row Other = no_row
+unfoldable pub mount_row : Verb → Option Row
+mount_row Setup = Some (setup_row (LIM + SEG))
+mount_row Distance = Some (numbers_row (S + S))
+mount_row Between = Some (numbers_row (S + S + T))
+mount_row Steer = Some (numbers_row (MAX + S + S))
+mount_row Valid = Some (numbers_row S)
+mount_row Steps = Some (numbers_row (S + S))
+mount_row Motion = Some (numbers_row (S + S))
+mount_row Keepout = None
+mount_row Solve = None
+mount_row Construct = None
+mount_row Goals = None
+mount_row Query = None
+mount_row Tables = None
 
 -- `rrt`, `connect` or `star`, by the numbers of its setup
-unfoldable pub tree_row : ℕ → Verb → Row
-tree_row n Setup = setup_row n
-tree_row n Keepout = keep_out_row
-tree_row n Solve = list_row true true
-tree_row n Tables = numbers_row 0
-tree_row n Construct = no_row
-tree_row n Goals = no_row
-tree_row n Query = no_row
-tree_row n Distance = no_row
-tree_row n Between = no_row
-tree_row n Steer = no_row
-tree_row n Valid = no_row
-tree_row n Steps = no_row
-tree_row n Motion = no_row
-tree_row n Other = no_row
+unfoldable pub tree_row : ℕ → Verb → Option Row
+tree_row n Setup = Some (setup_row n)
+tree_row n Keepout = Some keep_out_row
+tree_row n Solve = Some (list_row true Any)
+tree_row n Tables = Some (numbers_row 0)
+tree_row n Construct = None
+tree_row n Goals = None
+tree_row n Query = None
+tree_row n Distance = None
+tree_row n Between = None
+tree_row n Steer = None
+tree_row n Valid = None
+tree_row n Steps = None
+tree_row n Motion = None
 
 -- `prm`
-unfoldable pub prm_row : Verb → Row
-prm_row Setup = setup_row (LIM + SEG + CONNECT + S + S + RADIUS)
-prm_row Keepout = keep_out_row
-prm_row Construct = list_row false true
-prm_row Goals = numbers_row (S + S + RADIUS)
-prm_row Query = list_row true false
-prm_row Tables = numbers_row 0
-prm_row Solve = no_row
-prm_row Distance = no_row
-prm_row Between = no_row
-prm_row Steer = no_row
-prm_row Valid = no_row
-prm_row Steps = no_row
-prm_row Motion = no_row
-prm_row Other = no_row
+unfoldable pub prm_row : Verb → Option Row
+prm_row Setup = Some (setup_row (LIM + SEG + CONNECT + S + S + RADIUS))
+prm_row Keepout = Some keep_out_row
+prm_row Construct = Some (list_row false Any)
+prm_row Goals = Some (numbers_row (S + S + RADIUS))
+prm_row Query = Some (list_row true (Exactly 0))
+prm_row Tables = Some (numbers_row 0)
+prm_row Solve = None
+prm_row Distance = None
+prm_row Between = None
+prm_row Steer = None
+prm_row Valid = None
+prm_row Steps = None
+prm_row Motion = None
 
-unfoldable pub row_of : Planner → Verb → Row
+unfoldable pub row_of : Planner → Verb → Option Row
 row_of Mount verb = mount_row verb
 row_of Rrt verb = tree_row (LIM + SEG + MAX + S + S + RADIUS) verb
 row_of Connect verb = tree_row (LIM + SEG + MAX + S + S + RADIUS) verb
 row_of Star verb = tree_row (LIM + SEG + MAX + SEARCH + S + S + RADIUS) verb
 row_of Prm verb = prm_row verb
-row_of OtherPlanner verb = no_row

@@ -1,52 +1,42 @@
--- The call scripts, "Input": the two words that a line starts with. A word that is none of the names is `Other`.
-use Prim.Native.Char.{code}
-use Rattle.std.specs.Prelude.{ℕ, Bool, true, false, ◌&&◌, cond, List, [], ◌∷◌, eqb}
+-- The call scripts, "Input": the two words that a line starts with. A word that is none of the names is `None`.
+use Rattle.std.specs.Borrow.{Bor}
+use Rattle.std.specs.Prelude.{ℕ, Bool, cond, List, [], ◌∷◌, Option, Some, None, codes}
+use Rattle.std.specs.Str.{bytes_eq}
 use Prim.Native.String.{String}
-use Prim.Native.String as text
 use Rattle.grammar.specs.declared.Planner.{Planner}
-use Rattle.grammar.specs.declared.Planner.TheVariants as planner
+use Rattle.grammar.specs.declared.Planner.TheVariants.{Mount, Rrt, Connect, Star, Prm}
 use Rattle.grammar.specs.declared.Verb.{Verb}
-use Rattle.grammar.specs.declared.Verb.TheVariants as verb
+use Rattle.grammar.specs.declared.Verb.TheVariants.{Setup, Keepout, Solve, Construct, Goals, Query, Tables, Distance, Between, Steer, Valid, Steps, Motion}
 
--- the bytes of a name, which is ASCII
-unfoldable pub bytes_of : String → List ℕ
-bytes_of text.[] = []
-bytes_of (text.◌∷◌ c name) = code c ∷ bytes_of name
+-- what the first of the rows with that word names
+abbrev pub value_in : {A : Type 0} → List ℕ → List (Bor (List ℕ) × A) → Option A
+value_in word [] = None
+value_in word (row ∷ rows) = cond (bytes_eq word row.0.now) (Some row.1) (value_in word rows)
 
--- whether two lists hold the same bytes
-unfoldable pub same_of : List ℕ → List ℕ → Bool
-same_of [] [] = true
-same_of [] (b ∷ bs) = false
-same_of (a ∷ l) [] = false
-same_of (a ∷ l) (b ∷ bs) = eqb a b && same_of l bs
-
+-- whether the word is a name, which is ASCII
 abbrev pub is_word : List ℕ → String → Bool
-is_word word name = same_of word (bytes_of name)
+is_word word name = bytes_eq word (codes name)
 
-unfoldable pub planner_named : List ℕ → Planner
+abbrev pub planner_named : List ℕ → Option Planner
 planner_named word =
-    cond (is_word word "mount") planner.Mount
-    (cond (is_word word "rrt") planner.Rrt
-    (cond (is_word word "connect") planner.Connect
-    (cond (is_word word "star") planner.Star
-    (cond (is_word word "prm") planner.Prm planner.Other))))
+    cond (is_word word "mount") (Some Mount)
+    (cond (is_word word "rrt") (Some Rrt)
+    (cond (is_word word "connect") (Some Connect)
+    (cond (is_word word "star") (Some Star)
+    (cond (is_word word "prm") (Some Prm) None))))
 
--- the verbs of the mount's own calls
-unfoldable pub leaf_verb_named : List ℕ → Verb
-leaf_verb_named word =
-    cond (is_word word "distance") verb.Distance
-    (cond (is_word word "between") verb.Between
-    (cond (is_word word "steer") verb.Steer
-    (cond (is_word word "valid") verb.Valid
-    (cond (is_word word "steps") verb.Steps
-    (cond (is_word word "motion") verb.Motion verb.Other)))))
-
-unfoldable pub verb_named : List ℕ → Verb
+abbrev pub verb_named : List ℕ → Option Verb
 verb_named word =
-    cond (is_word word "setup") verb.Setup
-    (cond (is_word word "keepout") verb.Keepout
-    (cond (is_word word "solve") verb.Solve
-    (cond (is_word word "construct") verb.Construct
-    (cond (is_word word "goals") verb.Goals
-    (cond (is_word word "query") verb.Query
-    (cond (is_word word "tables") verb.Tables (leaf_verb_named word)))))))
+    cond (is_word word "setup") (Some Setup)
+    (cond (is_word word "keepout") (Some Keepout)
+    (cond (is_word word "solve") (Some Solve)
+    (cond (is_word word "construct") (Some Construct)
+    (cond (is_word word "goals") (Some Goals)
+    (cond (is_word word "query") (Some Query)
+    (cond (is_word word "tables") (Some Tables)
+    (cond (is_word word "distance") (Some Distance)
+    (cond (is_word word "between") (Some Between)
+    (cond (is_word word "steer") (Some Steer)
+    (cond (is_word word "valid") (Some Valid)
+    (cond (is_word word "steps") (Some Steps)
+    (cond (is_word word "motion") (Some Motion) None))))))))))))

@@ -2,8 +2,8 @@
 #![tactic(auto)]
 
 ghost use Rattle.std.specs.Prelude.{◌≡◌};
-ghost use Rattle.grammar.specs.Rows.{setup_row, numbers_row, list_row, keep_out_row, no_row, mount_row, tree_row, prm_row, row_of};
-ghost use Rattle.grammar.specs.Words.{planner_named, verb_named, leaf_verb_named};
+ghost use Rattle.grammar.specs.Rows.{setup_row, numbers_row, list_row, keep_out_row, mount_row, tree_row, prm_row, row_of};
+ghost use Rattle.grammar.specs.Words.{value_in, planner_named, verb_named};
 
 #[derive(Clone, Copy)]
 pub enum Planner {
@@ -12,7 +12,6 @@ pub enum Planner {
     Connect,
     Star,
     Prm,
-    Other,
 }
 
 #[derive(Clone, Copy)]
@@ -30,16 +29,20 @@ pub enum Verb {
     Valid,
     Steps,
     Motion,
-    Other,
 }
 
-// What follows the two words of a call: a capacity, so many numbers, a list of numbers of any length, and keep-outs.
+// How many numbers a line has, its capacity not counted.
+#[derive(Clone, Copy)]
+pub enum Numbers {
+    Exactly(u64),
+    Any,
+}
+
+// What follows the two words of a call: a capacity or none, numbers, and keep-outs.
 #[derive(Clone, Copy)]
 pub struct Row {
-    pub is_call: bool,
     pub has_capacity: bool,
-    pub numbers: u64,
-    pub has_list: bool,
+    pub numbers: Numbers,
     pub least_keep_outs: usize,
     pub most_keep_outs: usize,
 }
@@ -53,10 +56,8 @@ impl Row {
         ensures { result ≡ setup_row numbers }
     {
         Row {
-            is_call: true,
             has_capacity: false,
-            numbers,
-            has_list: false,
+            numbers: Numbers::Exactly(numbers),
             least_keep_outs: 0,
             most_keep_outs: Row::MOST_KEEP_OUTS,
         }
@@ -66,23 +67,19 @@ impl Row {
         ensures { result ≡ numbers_row numbers }
     {
         Row {
-            is_call: true,
             has_capacity: false,
-            numbers,
-            has_list: false,
+            numbers: Numbers::Exactly(numbers),
             least_keep_outs: 0,
             most_keep_outs: 0,
         }
     }
 
-    fn of_list(has_capacity: bool, has_list: bool) -> Row
-        ensures { result ≡ list_row has_capacity has_list }
+    fn of_list(has_capacity: bool, numbers: Numbers) -> Row
+        ensures { result ≡ list_row has_capacity numbers }
     {
         Row {
-            is_call: true,
             has_capacity,
-            numbers: 0,
-            has_list,
+            numbers,
             least_keep_outs: 0,
             most_keep_outs: 0,
         }
@@ -92,152 +89,114 @@ impl Row {
         ensures { result ≡ keep_out_row }
     {
         Row {
-            is_call: true,
             has_capacity: false,
-            numbers: 0,
-            has_list: false,
+            numbers: Numbers::Exactly(0),
             least_keep_outs: 1,
             most_keep_outs: 1,
         }
     }
 
-    fn none() -> Row
-        ensures { result ≡ no_row }
-    {
-        Row {
-            is_call: false,
-            has_capacity: false,
-            numbers: 0,
-            has_list: false,
-            least_keep_outs: 0,
-            most_keep_outs: 0,
-        }
-    }
-
-    pub fn of(planner: Planner, verb: Verb) -> Row
+    // None where the planner has no such call.
+    #[tactic(auto, unfolding(crate::specs::Rows::row_of))]
+    pub fn of(planner: Planner, verb: Verb) -> Option<Row>
         ensures { result ≡ row_of planner verb }
     {
         match planner {
             Planner::Mount => Row::of_mount(verb),
-            Planner::Rrt => Row::of_tree(verb, 15),
-            Planner::Connect => Row::of_tree(verb, 15),
+            Planner::Rrt | Planner::Connect => Row::of_tree(verb, 15),
             Planner::Star => Row::of_tree(verb, 16),
             Planner::Prm => Row::of_prm(verb),
-            Planner::Other => Row::none(),
         }
     }
 
-    fn of_mount(verb: Verb) -> Row
+    #[tactic(auto, unfolding(crate::specs::Rows::mount_row))]
+    fn of_mount(verb: Verb) -> Option<Row>
         ensures { result ≡ mount_row verb }
     {
         match verb {
-            Verb::Setup => Row::setup(7),
-            Verb::Distance => Row::of_numbers(6),
-            Verb::Between => Row::of_numbers(7),
-            Verb::Steer => Row::of_numbers(7),
-            Verb::Valid => Row::of_numbers(3),
-            Verb::Steps => Row::of_numbers(6),
-            Verb::Motion => Row::of_numbers(6),
-            _ => Row::none(),
+            Verb::Setup => Some(Row::setup(7)),
+            Verb::Distance | Verb::Steps | Verb::Motion => Some(Row::of_numbers(6)),
+            Verb::Between | Verb::Steer => Some(Row::of_numbers(7)),
+            Verb::Valid => Some(Row::of_numbers(3)),
+            _ => None,
         }
     }
 
-    fn of_tree(verb: Verb, numbers: u64) -> Row
+    #[tactic(auto, unfolding(crate::specs::Rows::tree_row))]
+    fn of_tree(verb: Verb, numbers: u64) -> Option<Row>
         ensures { result ≡ tree_row numbers verb }
     {
         match verb {
-            Verb::Setup => Row::setup(numbers),
-            Verb::Keepout => Row::of_keep_out(),
-            Verb::Solve => Row::of_list(true, true),
-            Verb::Tables => Row::of_numbers(0),
-            _ => Row::none(),
+            Verb::Setup => Some(Row::setup(numbers)),
+            Verb::Keepout => Some(Row::of_keep_out()),
+            Verb::Solve => Some(Row::of_list(true, Numbers::Any)),
+            Verb::Tables => Some(Row::of_numbers(0)),
+            _ => None,
         }
     }
 
-    fn of_prm(verb: Verb) -> Row
+    #[tactic(auto, unfolding(crate::specs::Rows::prm_row))]
+    fn of_prm(verb: Verb) -> Option<Row>
         ensures { result ≡ prm_row verb }
     {
         match verb {
-            Verb::Setup => Row::setup(15),
-            Verb::Keepout => Row::of_keep_out(),
-            Verb::Construct => Row::of_list(false, true),
-            Verb::Goals => Row::of_numbers(7),
-            Verb::Query => Row::of_list(true, false),
-            Verb::Tables => Row::of_numbers(0),
-            _ => Row::none(),
+            Verb::Setup => Some(Row::setup(15)),
+            Verb::Keepout => Some(Row::of_keep_out()),
+            Verb::Construct => Some(Row::of_list(false, Numbers::Any)),
+            Verb::Goals => Some(Row::of_numbers(7)),
+            Verb::Query => Some(Row::of_list(true, Numbers::Exactly(0))),
+            Verb::Tables => Some(Row::of_numbers(0)),
+            _ => None,
         }
     }
 }
 
-pub fn planner_of(word: &[u8]) -> Planner
+// The words that name a planner.
+const PLANNERS: [(&[u8], Planner); 5] = [
+    (b"mount", Planner::Mount),
+    (b"rrt", Planner::Rrt),
+    (b"connect", Planner::Connect),
+    (b"star", Planner::Star),
+    (b"prm", Planner::Prm),
+];
+
+// The words that name a verb.
+const VERBS: [(&[u8], Verb); 13] = [
+    (b"setup", Verb::Setup),
+    (b"keepout", Verb::Keepout),
+    (b"solve", Verb::Solve),
+    (b"construct", Verb::Construct),
+    (b"goals", Verb::Goals),
+    (b"query", Verb::Query),
+    (b"tables", Verb::Tables),
+    (b"distance", Verb::Distance),
+    (b"between", Verb::Between),
+    (b"steer", Verb::Steer),
+    (b"valid", Verb::Valid),
+    (b"steps", Verb::Steps),
+    (b"motion", Verb::Motion),
+];
+
+// What the first of the rows with that word names.
+pub fn named<T: Copy>(word: &[u8], rows: &[(&[u8], T)]) -> Option<T>
+    ensures { result ≡ value_in word.now rows.now }
+{
+    for (name, value) in rows {
+        if word == *name {
+            return Some(*value);
+        }
+    }
+    None
+}
+
+pub fn planner_of(word: &[u8]) -> Option<Planner>
     ensures { result ≡ planner_named word.now }
 {
-    if check::same(word, b"mount") {
-        return Planner::Mount;
-    }
-    if check::same(word, b"rrt") {
-        return Planner::Rrt;
-    }
-    if check::same(word, b"connect") {
-        return Planner::Connect;
-    }
-    if check::same(word, b"star") {
-        return Planner::Star;
-    }
-    if check::same(word, b"prm") {
-        return Planner::Prm;
-    }
-    Planner::Other
+    named(word, &PLANNERS)
 }
 
-pub fn verb_of(word: &[u8]) -> Verb
+pub fn verb_of(word: &[u8]) -> Option<Verb>
     ensures { result ≡ verb_named word.now }
 {
-    if check::same(word, b"setup") {
-        return Verb::Setup;
-    }
-    if check::same(word, b"keepout") {
-        return Verb::Keepout;
-    }
-    if check::same(word, b"solve") {
-        return Verb::Solve;
-    }
-    if check::same(word, b"construct") {
-        return Verb::Construct;
-    }
-    if check::same(word, b"goals") {
-        return Verb::Goals;
-    }
-    if check::same(word, b"query") {
-        return Verb::Query;
-    }
-    if check::same(word, b"tables") {
-        return Verb::Tables;
-    }
-    leaf_verb_of(word)
-}
-
-// The verbs of the mount's own calls.
-fn leaf_verb_of(word: &[u8]) -> Verb
-    ensures { result ≡ leaf_verb_named word.now }
-{
-    if check::same(word, b"distance") {
-        return Verb::Distance;
-    }
-    if check::same(word, b"between") {
-        return Verb::Between;
-    }
-    if check::same(word, b"steer") {
-        return Verb::Steer;
-    }
-    if check::same(word, b"valid") {
-        return Verb::Valid;
-    }
-    if check::same(word, b"steps") {
-        return Verb::Steps;
-    }
-    if check::same(word, b"motion") {
-        return Verb::Motion;
-    }
-    Verb::Other
+    named(word, &VERBS)
 }
