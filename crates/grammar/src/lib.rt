@@ -34,7 +34,7 @@ pub enum Verb {
 // How many numbers a line has, its capacity not counted.
 #[derive(Clone, Copy)]
 pub enum Numbers {
-    Exactly(u64),
+    Exactly(usize),
     Any,
 }
 
@@ -52,7 +52,7 @@ impl Row {
     const MOST_KEEP_OUTS: usize = 40;
 
     // Limits, a segment length and what the planner has more of numbers, and any keep-outs.
-    fn setup(numbers: u64) -> Row
+    fn setup(numbers: usize) -> Row
         ensures { result ≡ setup_row numbers }
     {
         Row {
@@ -63,7 +63,7 @@ impl Row {
         }
     }
 
-    fn of_numbers(numbers: u64) -> Row
+    fn of_numbers(numbers: usize) -> Row
         ensures { result ≡ numbers_row numbers }
     {
         Row {
@@ -123,7 +123,7 @@ impl Row {
     }
 
     #[tactic(auto, unfolding(crate::specs::Rows::tree_row))]
-    fn of_tree(verb: Verb, numbers: u64) -> Option<Row>
+    fn of_tree(verb: Verb, numbers: usize) -> Option<Row>
         ensures { result ≡ tree_row numbers verb }
     {
         match verb {

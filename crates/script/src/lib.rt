@@ -5,4 +5,4 @@ mod keep_outs;
 mod line;
 mod numbers;
 
-pub use line::{Kind, Line, read};
+pub use line::{Line, NoCall, read};

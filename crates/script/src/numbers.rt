@@ -1,96 +1,81 @@
 // The numbers of a line: a capacity, and so many numbers or a list of them.
-use grammar::Row;
-use input::Input;
-use numeral::NumeralMade;
-use std::io::Stdin;
-use words::number::Whole;
+ghost use Rattle.std.specs.Prelude.{◌≤◌, IfOk, length};
+ghost use Rattle.script.specs.Fits.{HasCapacity, HasNumbers};
+
+use crate::line::NoCall;
+use grammar::{Numbers, Row};
+use input::Reader;
 use words::{number, word};
 
-// The most numbers that a route buffer has.
-const MOST_CAPACITY: u64 = 4096;
-
-// What a part of a line says: whether it fits, and a number or how many numbers there are.
-#[derive(Clone, Copy)]
-pub struct Part {
-    pub fits: bool,
-    pub value: usize,
-    pub input: Input,
-}
-
 // A row's capacity, 0 where it has none.
-pub fn capacity(stdin: Stdin, bytes: &mut [u8], row: Row, input: Input) -> Part {
-    if row.has_capacity {
-        let w = word::next(stdin, bytes, input);
-        let text = w.text;
-        let len = w.len;
-        let input = w.input;
-        return match number::whole_of(&text[..len]) {
-            Whole::Value(n) => Part {
-                fits: n <= MOST_CAPACITY,
-                value: n as usize,
-                input,
-            },
-            Whole::Other => Part {
-                fits: false,
-                value: 0,
-                input,
-            },
-        };
+pub fn capacity(reader: &mut Reader, row: Row) -> Result<usize, NoCall>
+    ensures { IfOk result (HasCapacity row) }
+{
+    if !row.has_capacity {
+        return Ok(0);
     }
-    Part {
-        fits: true,
-        value: 0,
-        input,
+    let word = word::next(reader).ok_or(NoCall)?;
+    let capacity = number::whole_of(word.text()).ok_or(NoCall)? as usize;
+    if route_buffer::LENGTH < capacity {
+        return Err(NoCall);
     }
+    Ok(capacity)
 }
 
-// So many numbers, put one after the other into memory that the caller lends; more than that has room for do not fit. A list may have
-// fewer, since it ends with the line.
-pub fn read(
-    stdin: Stdin,
-    bytes: &mut [u8],
-    space: &mut [f64],
-    most: u64,
-    is_list: bool,
-    input: Input,
-) -> Part {
-    let mut input = input;
-    let mut count: usize = 0;
-    let mut left = most;
-    while left > 0 {
-        let w = word::next(stdin, bytes, input);
-        input = w.input;
-        let text = w.text;
-        let len = w.len;
-        if len == 0 {
-            return Part {
-                fits: is_list,
-                value: count,
-                input,
-            };
-        }
-        let made = number::of(&text[..len]);
-        let NumeralMade::Good(x) = made else {
-            return Part {
-                fits: false,
-                value: count,
-                input,
-            };
-        };
-        if space.len() <= count {
-            return Part {
-                fits: false,
-                value: count,
-                input,
-            };
-        }
-        space[count] = x;
-        count += 1;
-        left -= 1;
+// The line's next number, if it has one more word.
+fn next(reader: &mut Reader) -> Result<Option<f64>, NoCall> {
+    let Some(word) = word::next(reader) else {
+        return Ok(None);
+    };
+    let number = number::of(word.text()).ok_or(NoCall)?;
+    Ok(Some(number))
+}
+
+// A number for each place.
+fn fill(reader: &mut Reader, places: &mut [f64]) -> Result<(), NoCall> {
+    for place in places.iter_mut() {
+        *place = next(reader)?.ok_or(NoCall)?;
     }
-    Part {
-        fits: true,
-        value: count,
-        input,
+    Ok(())
+}
+
+// As many numbers as the caller takes apart.
+pub fn exactly<const N: usize>(reader: &mut Reader) -> Result<[f64; N], NoCall> {
+    let mut numbers = [0.0; N];
+    fill(reader, &mut numbers)?;
+    Ok(numbers)
+}
+
+// Numbers up to the line's end, and how many they are. The line may have more than there are places.
+fn list(reader: &mut Reader, places: &mut [f64]) -> Result<usize, NoCall>
+    ensures { IfOk result (λ count. count ≤ length places.new) }
+{
+    for (count, place) in places.iter_mut().enumerate() {
+        let Some(number) = next(reader)? else {
+            return Ok(count);
+        };
+        *place = number;
+    }
+    Ok(places.len())
+}
+
+// A row's numbers, at the front of memory that the caller lends.
+pub fn read<'a>(
+    reader: &mut Reader,
+    space: &'a mut [f64],
+    numbers: Numbers,
+) -> Result<&'a [f64], NoCall>
+    ensures { IfOk result (λ held. HasNumbers numbers (length held.now)) }
+{
+    match numbers {
+        Numbers::Exactly(count) => {
+            let places = space.get_mut(..count).ok_or(NoCall)?;
+            fill(reader, places)?;
+            Ok(places)
+        }
+        Numbers::Any => {
+            let count = list(reader, space)?;
+            Ok(&space[..count])
+        }
     }
 }

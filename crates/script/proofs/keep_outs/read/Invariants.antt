@@ -1,11 +1,6 @@
--- `script::keep_outs::read` is safe and ends: the keep-outs that a line may still have fall.
-use lib.ListN.{length}
-use Prim.Native.Nat.{◌≤◌, ◌-◌}
-use mathlib.Core.Path.{◌≡◌}
+-- The table counts each keep-out, the ones too that it has no room for.
+use Rattle.std.proofs.Common.{◌≡◌}
 use Rattle.script.proofs.keep_outs.read.Given as goal
 
 abbrev pub invariant-loop-count : goal.invariant-loop-count
-invariant-loop-count l = (length l.bytes ≡ length l.initial.bytes) × (l.count ≤ l.most)
-
-abbrev pub decreases-loop-count : goal.decreases-loop-count
-decreases-loop-count l = l.most - l.count
+invariant-loop-count l = l.table.count ≡ l.count
