@@ -1,66 +1,77 @@
-// Standard output, through a buffer that the caller lends. Each function puts its text after the bytes that are used and answers how
-// many are used then; a full buffer is written first.
+// Standard output, through a buffer.
 #![tactic(auto)]
 
 pub mod nodes;
 pub mod replies;
 pub mod routes;
 
+ghost use Rattle.std.specs.Prelude.{◌≡◌, ◌≤◌, length};
+
 use state::State;
+use std::io::{Stdout, Write};
 
-// Standard output's descriptor.
-const STDOUT: i32 = 1;
+// The bytes that are used have still to be written. A full buffer is written first.
+#[derive(Drop)]
+pub struct Out {
+    stdout: Stdout,
+    bytes: [u8; 4096],
+    used: usize,
+    ghost within: { used ≤ length bytes },
+}
 
-// Writes the bytes that are used, and none are used any more.
-pub fn flush(out: &mut [u8], used: usize) -> usize {
-    if used <= out.len() {
-        io::write_all(STDOUT, &out[..used]);
+impl Out {
+    pub fn new(stdout: Stdout) -> Out
+        ensures { result.used ≡ 0 }
+    {
+        Out {
+            stdout,
+            bytes: [0; 4096],
+            used: 0,
+        }
     }
-    0
-}
 
-pub fn byte(out: &mut [u8], used: usize, byte: u8) -> usize {
-    if used < out.len() {
-        out[used] = byte;
-        return used + 1;
+    // Writes the bytes that are used, and none are used any more. What cannot be written is lost.
+    pub fn flush(&mut self)
+        ensures { self.new.used ≡ 0 }
+    {
+        let _ = self.stdout.write_all(&self.bytes[..self.used]);
+        self.used = 0;
     }
-    let none = flush(out, used);
-    if none < out.len() {
-        out[none] = byte;
-        return none + 1;
+
+    pub fn byte(&mut self, byte: u8) {
+        if self.used == self.bytes.len() {
+            self.flush();
+        }
+        self.bytes[self.used] = byte;
+        self.used += 1;
     }
-    none
-}
 
-pub fn text(out: &mut [u8], used: usize, text: &[u8]) -> usize {
-    let mut used = used;
-    let mut i: usize = 0;
-    while i < text.len() {
-        used = byte(out, used, text[i]);
-        i += 1;
+    pub fn text(&mut self, text: &[u8]) {
+        for byte in text {
+            self.byte(*byte);
+        }
     }
-    used
-}
 
-pub fn number(out: &mut [u8], used: usize, n: u64) -> usize {
-    let mut digits = [0u8; 20];
-    let k = io::decimal(n, &mut digits);
-    text(out, used, &digits[..k])
-}
+    pub fn number(&mut self, n: usize) {
+        let mut digits = [0u8; 20];
+        let k = io::decimal(n as u64, &mut digits);
+        self.text(&digits[..k]);
+    }
 
-// `x` and the bits in 16 hexadecimal digits.
-pub fn float(out: &mut [u8], used: usize, x: f64) -> usize {
-    let mut digits = [0u8; 16];
-    let k = io::hex(numeral::to_bits(x), 16, &mut digits);
-    let used = byte(out, used, b'x');
-    text(out, used, &digits[..k])
-}
+    // `x` and the bits in 16 hexadecimal digits.
+    pub fn float(&mut self, x: f64) {
+        let mut digits = [0u8; 16];
+        let k = io::hex(numeral::to_bits(x), 16, &mut digits);
+        self.byte(b'x');
+        self.text(&digits[..k]);
+    }
 
-// Its three numbers, apart by a space.
-pub fn state(out: &mut [u8], used: usize, s: State) -> usize {
-    let used = float(out, used, s.az);
-    let used = byte(out, used, b' ');
-    let used = float(out, used, s.el);
-    let used = byte(out, used, b' ');
-    float(out, used, s.feed)
+    // Its three numbers, apart by a space.
+    pub fn state(&mut self, s: State) {
+        self.float(s.az);
+        self.byte(b' ');
+        self.float(s.el);
+        self.byte(b' ');
+        self.float(s.feed);
+    }
 }

@@ -1,34 +1,35 @@
 // The tables of a planner.
+use crate::Out;
 use tree::NodeAt;
 
 // A table's name and size.
-pub fn heading(out: &mut [u8], used: usize, name: &[u8], size: usize) -> usize {
-    let used = crate::text(out, used, name);
-    let used = crate::byte(out, used, b' ');
-    let used = crate::number(out, used, size as u64);
-    crate::byte(out, used, b'\n')
+pub fn heading(out: &mut Out, name: &[u8], size: usize) {
+    out.text(name);
+    out.byte(b' ');
+    out.number(size);
+    out.byte(b'\n');
 }
 
 // An index, as the line of a node or a milestone starts with it.
-pub fn index(out: &mut [u8], used: usize, i: usize) -> usize {
-    let used = crate::text(out, used, b"  ");
-    let used = crate::number(out, used, i as u64);
-    crate::byte(out, used, b' ')
+pub fn index(out: &mut Out, i: usize) {
+    out.text(b"  ");
+    out.number(i);
+    out.byte(b' ');
 }
 
 // A node's index, its parent's or `-`, and its three numbers. What may follow them, and the line's end, are the caller's.
-pub fn node(out: &mut [u8], used: usize, i: usize, node: NodeAt) -> usize {
-    let used = index(out, used, i);
+pub fn node(out: &mut Out, i: usize, node: NodeAt) {
+    index(out, i);
     match node {
         NodeAt::Root(s) => {
-            let used = crate::text(out, used, b"- ");
-            crate::state(out, used, s)
+            out.text(b"- ");
+            out.state(s);
         }
         NodeAt::Child(s, parent) => {
-            let used = crate::number(out, used, parent as u64);
-            let used = crate::byte(out, used, b' ');
-            crate::state(out, used, s)
+            out.number(parent);
+            out.byte(b' ');
+            out.state(s);
         }
-        NodeAt::Nothing => used,
+        NodeAt::Nothing => {}
     }
 }
