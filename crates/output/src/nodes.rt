@@ -30,6 +30,5 @@ pub fn node(out: &mut Out, i: usize, node: NodeAt) {
             out.byte(b' ');
             out.state(s);
         }
-        NodeAt::Nothing => {}
     }
 }

@@ -4,7 +4,7 @@ use answer::Answer;
 
 // The answer's number, the count of states and the samples taken.
 pub fn answer(out: &mut Out, answer: Answer, count: usize, taken: usize) {
-    out.number(answer.number());
+    out.number(usize::from(answer));
     out.byte(b' ');
     out.number(count);
     out.byte(b' ');
