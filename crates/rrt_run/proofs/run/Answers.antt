@@ -1,3 +1,4 @@
+use native.Mathlib.Omega.{arith}
 use Rattle.samples.proofs.Threes.{turn_of}
 use Rattle.rrt_run.proofs.Runs.{run_ends, turn_refused, turn_full, low, way_in, turn_added, turn_found}
 use Rattle.rrt_run.proofs.run.Goals as goal
@@ -17,8 +18,8 @@ push-requires c =
 
 pub reconstruct_path-count-requires : goal.reconstruct_path-count-requires
 reconstruct_path-count-requires c =
-    rw c.push.ensures
-    (way_in c.loop-i.invariant (turn_of c.in-Some.ensures.steps) c.state.ensures c.step-e.ensures c.if-not-e.false c.len-node.ensures.nodes c.len-node.ensures.sized c.if-node-eq-MOST.false c.requires.2)
+    let w = way_in c.loop-i.invariant (turn_of c.in-Some.ensures.steps) c.state.ensures c.step-e.ensures c.if-not-e.false c.len-node.ensures.nodes c.len-node.ensures.sized c.if-node-eq-MOST.false c.requires.2 in
+    rw c.push.ensures (omega (arith, w), omega (arith, w), omega (arith, w))
 
 pub returns-then-is_satisfied : goal.returns-then-is_satisfied
 returns-then-is_satisfied c =
