@@ -32,3 +32,17 @@ pub fn node(out: &mut Out, i: usize, node: NodeAt) {
         }
     }
 }
+
+// A table of so many nodes: its heading, and a line to each.
+pub fn table<F: Fn(usize) -> Option<NodeAt>>(out: &mut Out, name: &[u8], size: usize, node_at: F)
+    requires { F.IsAlwaysCallable node_at }
+{
+    heading(out, name, size);
+    for i in 0..size {
+        if let Some(found) = node_at(i) {
+            node(out, i, found);
+        }
+        out.byte(b'\n');
+    }
+    out.flush();
+}

@@ -39,15 +39,7 @@ fn solve(out: &mut Out, planner: &mut Rrt, line: &Line<'_>)
 }
 
 fn tables(out: &mut Out, planner: &Rrt) {
-    let size = planner.size();
-    nodes::heading(out, b"tree", size);
-    for i in 0..size {
-        if let Some(node) = planner.node(i) {
-            nodes::node(out, i, node);
-        }
-        out.byte(b'\n');
-    }
-    out.flush();
+    nodes::table(out, b"tree", planner.size(), |i| planner.node(i));
 }
 
 // Makes a call and writes what it answers, if the planner has such a one.
