@@ -4,12 +4,8 @@ use Rattle.state.specs.declared.State.{State}
 use Rattle.plan.specs.Plan.{Plan}
 use Rattle.plan.specs.Solve.{Ended, Outcome, solve_with}
 use Rattle.turn.specs.Trees.{Trees}
-use Rattle.rrt_connect.specs.Planner.{View, planner_of}
+use Rattle.rrt_connect.specs.Planner.{View}
 use Rattle.connect_run.specs.Run.{run_of}
-use Rattle.rrt_connect.specs.declared.Solved.{Solved}
-
-abbrev pub solved_of : Solved → List Float → Outcome Plan Trees
-solved_of r route = record { planner = planner_of r.planner; answer = r.answer; count = r.count; taken = r.taken; route = route }
 
 -- the length that a route buffer needs
 abbrev pub needed : ℕ

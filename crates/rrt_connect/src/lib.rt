@@ -3,14 +3,15 @@
 #![tactic(auto)]
 
 ghost use Rattle.std.specs.Prelude.{◌≡◌};
-ghost use Rattle.rrt_connect.specs.Planner.{usable_of, planner_of, new_of, setup_of, add_of, answered_of, start_size_of, goal_size_of, start_node_of, goal_node_of};
-ghost use Rattle.rrt_connect.specs.Solve.{solved_of, solve_of};
+ghost use Rattle.plan.specs.Solve.{outcome_of};
+ghost use Rattle.rrt_connect.specs.Planner.{usable_of, planner_of, new_of, told_of, setup_of, add_of, start_size_of, goal_size_of, start_node_of, goal_node_of};
+ghost use Rattle.rrt_connect.specs.Solve.{solve_of};
 
 use answer::Answer;
 use fields::{Goal, Length, Limits};
 use keep_out::KeepOut;
 use keep_out_table::KeepOuts;
-use plan::Setting;
+use plan::{Setting, Solved};
 use state::State;
 use tree::{NodeAt, Tree};
 
@@ -22,32 +23,8 @@ pub struct RrtConnect {
     goal_tree: Tree,
 }
 
-#[derive(Clone, Copy)]
-pub struct Answered {
-    pub planner: RrtConnect,
-    pub answer: Answer,
-}
-
-#[derive(Clone, Copy)]
-pub struct Solved {
-    pub planner: RrtConnect,
-    pub answer: Answer,
-    // The route's number of states.
-    pub count: usize,
-    // The samples taken.
-    pub taken: usize,
-}
-
-// Whether a setup was accepted, and left trees that a setup can leave.
-fn usable(ready: bool, start: usize, goal: usize) -> bool
-    ensures { result ≡ usable_of ready start goal }
-{
-    if plan::is_usable(ready, start) {
-        return goal <= Tree::MOST;
-    }
-    false
-}
-
+// The generated proofs open these definitions.
+#[tactic(auto, unfolding(crate::specs::Planner::usable_of, crate::specs::Planner::planner_of, crate::specs::Planner::setup_of, crate::specs::Planner::add_of, crate::specs::Planner::start_size_of, crate::specs::Planner::goal_size_of, crate::specs::Planner::start_node_of, crate::specs::Planner::goal_node_of, crate::specs::Solve::solve_of, plan::specs::Plan::view_of, plan::specs::Setup::usable_of, plan::specs::Setup::setup_with, plan::specs::Solve::solve_with, plan::specs::Solve::ended_of, plan::specs::KeepOut::add_with, plan::specs::KeepOut::longer_setting, tree::specs::Table::nodes_of, tree::specs::Table::nodes_in, tree::specs::Table::root_of, tree::specs::Table::rooted_of, tree::specs::Table::none_of))]
 impl RrtConnect {
     // The length that the route buffer of a solve needs.
     pub const ROUTE: usize = 3069;
@@ -56,166 +33,111 @@ impl RrtConnect {
     pub fn new() -> RrtConnect
         ensures { planner_of result ≡ new_of }
     {
-        let zero = State {
-            az: 0.0,
-            el: 0.0,
-            feed: 0.0,
-        };
         RrtConnect {
             setting: Setting::none(),
-            start_tree: Tree::rooted(zero),
+            start_tree: Tree::none(),
             goal_tree: Tree::none(),
         }
     }
 
+    // Whether a setup was accepted, and left trees that a setup can leave.
+    fn is_usable(&self) -> bool
+        ensures { result ≡ usable_of self.now.setting.ready self.now.start_tree.count self.now.goal_tree.count }
+    {
+        plan::is_usable(self.setting.ready, self.start_tree.count)
+            && self.goal_tree.count <= Tree::MOST
+    }
+
     // A refused setup keeps the planner as it was.
     pub fn setup(
-        self,
+        &mut self,
         limits: Limits,
         segment: Length,
         max_distance: Length,
         start: State,
         goal: Goal,
         table: KeepOuts,
-    ) -> Answered
-        ensures { answered_of result ≡ setup_of (planner_of self) limits segment max_distance start goal table }
+    ) -> Answer
+        ensures { told_of self.new result ≡ setup_of (planner_of self.old) limits segment max_distance start goal table }
     {
         let setting = Setting::new(limits, segment, max_distance, start, goal, table);
-        if setting.ready {
-            let planner = RrtConnect {
-                setting,
-                start_tree: Tree::rooted(start),
-                goal_tree: Tree::none(),
-            };
-            return Answered {
-                planner,
-                answer: Answer::Done,
-            };
+        if !setting.ready {
+            return Answer::BadInput;
         }
-        let kept = self;
-        Answered {
-            planner: kept,
-            answer: Answer::BadInput,
-        }
+        self.setting = setting;
+        self.start_tree = Tree::rooted(start);
+        self.goal_tree = Tree::none();
+        Answer::Done
     }
 
     // A further solve goes on with the same trees.
-    pub fn solve(self, samples: &[f64], route: &mut [f64]) -> Solved
-        ensures { solved_of result route.new ≡ solve_of (planner_of self) samples.now route.old }
+    pub fn solve(&mut self, samples: &[f64], route: &mut [f64]) -> Solved
+        ensures { outcome_of (planner_of self.new) result route.new ≡ solve_of (planner_of self.old) samples.now route.old }
     {
-        let setting = self.setting;
-        let start = self.start_tree;
-        let goal = self.goal_tree;
-        let good = samples::are_good(samples);
-        if usable(setting.ready, start.count, goal.count) {
-            if route.len() < RrtConnect::ROUTE {
-                return Solved {
-                    planner: self,
-                    answer: Answer::Room,
-                    count: 0,
-                    taken: 0,
-                };
-            }
-            if good {
-                let ran = connect_run::run(
-                    setting.mount,
-                    setting.reach,
-                    setting.goal,
-                    start,
-                    goal,
-                    samples,
-                    route,
-                );
-                let start_grown = ran.start;
-                let goal_grown = ran.goal;
-                let answer = ran.answer;
-                let mut planner = self;
-                planner.start_tree = start_grown;
-                planner.goal_tree = goal_grown;
-                return Solved {
-                    planner,
-                    answer,
-                    count: ran.count,
-                    taken: ran.taken,
-                };
-            }
-            // A list that is not good: all is kept.
-            return Solved {
-                planner: self,
-                answer: Answer::BadInput,
-                count: 0,
-                taken: 0,
-            };
+        if !self.is_usable() {
+            return Solved::refused(Answer::Uninitialised);
         }
-        Solved {
-            planner: self,
-            answer: Answer::Uninitialised,
-            count: 0,
-            taken: 0,
+        if route.len() < RrtConnect::ROUTE {
+            return Solved::refused(Answer::Room);
         }
+        if !samples::are_good(samples) {
+            return Solved::refused(Answer::BadInput);
+        }
+        connect_run::run(
+            &mut self.start_tree,
+            &mut self.goal_tree,
+            &self.setting.mount,
+            self.setting.reach,
+            self.setting.goal,
+            samples,
+            route,
+        )
     }
 
     // Adds a keep-out for the motions to come; what has grown stays.
-    pub fn add_keep_out(self, k: KeepOut) -> Answered
-        ensures { answered_of result ≡ add_of (planner_of self) k }
+    pub fn add_keep_out(&mut self, k: KeepOut) -> Answer
+        ensures { told_of self.new result ≡ add_of (planner_of self.old) k }
     {
-        let setting = self.setting;
-        if usable(setting.ready, self.start_tree.count, self.goal_tree.count) {
-            let more = setting.with_keep_out(k);
-            let longer = more.setting;
-            let answer = more.answer;
-            let mut planner = self;
-            planner.setting = longer;
-            return Answered { planner, answer };
+        if !self.is_usable() {
+            return Answer::Uninitialised;
         }
-        Answered {
-            planner: self,
-            answer: Answer::Uninitialised,
-        }
+        self.setting.add_keep_out(k)
     }
 
     // How many nodes the trees have; none before an accepted setup.
-    pub fn start_size(self) -> usize
-        ensures { result ≡ start_size_of (planner_of self) }
+    pub fn start_size(&self) -> usize
+        ensures { result ≡ start_size_of (planner_of self.now) }
     {
-        let n = self.start_tree.count;
-        if usable(self.setting.ready, n, self.goal_tree.count) {
-            n
-        } else {
-            0
+        if !self.is_usable() {
+            return 0;
         }
+        self.start_tree.len()
     }
 
-    pub fn goal_size(self) -> usize
-        ensures { result ≡ goal_size_of (planner_of self) }
+    pub fn goal_size(&self) -> usize
+        ensures { result ≡ goal_size_of (planner_of self.now) }
     {
-        let m = self.goal_tree.count;
-        if usable(self.setting.ready, self.start_tree.count, m) {
-            m
-        } else {
-            0
+        if !self.is_usable() {
+            return 0;
         }
+        self.goal_tree.len()
     }
 
-    pub fn start_node(self, i: usize) -> NodeAt
-        ensures { result ≡ start_node_of (planner_of self) i }
+    pub fn start_node(&self, i: usize) -> Option<NodeAt>
+        ensures { result ≡ start_node_of (planner_of self.now) i }
     {
-        let tree = self.start_tree;
-        let n = tree.count;
-        if usable(self.setting.ready, n, self.goal_tree.count) {
-            return tree::node_at(&tree.az, &tree.el, &tree.feed, &tree.parent, n, i);
+        if !self.is_usable() {
+            return None;
         }
-        NodeAt::Nothing
+        self.start_tree.node_at(i)
     }
 
-    pub fn goal_node(self, i: usize) -> NodeAt
-        ensures { result ≡ goal_node_of (planner_of self) i }
+    pub fn goal_node(&self, i: usize) -> Option<NodeAt>
+        ensures { result ≡ goal_node_of (planner_of self.now) i }
     {
-        let tree = self.goal_tree;
-        let m = tree.count;
-        if usable(self.setting.ready, self.start_tree.count, m) {
-            return tree::node_at(&tree.az, &tree.el, &tree.feed, &tree.parent, m, i);
+        if !self.is_usable() {
+            return None;
         }
-        NodeAt::Nothing
+        self.goal_tree.node_at(i)
     }
 }

@@ -1,3 +1,0 @@
--- The crate's laws that belong to no one function.
-pub mod Views
-pub mod Setups
