@@ -1,7 +1,8 @@
 -- What an RRT* planner is to its caller, and document 01's setup: search_radius comes after max_distance.
-use Rattle.std.specs.Prelude.{ℕ, ◌&&◌, cond, [], ◌∷◌, ltb, length, get_or}
+use Rattle.std.specs.Prelude.{ℕ, ◌&&◌, cond, Option, Some, None, [], ◌∷◌, ltb, length, get_or, Float}
 use Rattle.std.specs.Float.{binary64, nan}
 use Rattle.std.specs.Float.Ieee.{of_bits}
+use Rattle.answer.specs.declared.Answer.{Answer}
 use Rattle.fields.specs.Ranges.{good_length}
 use Rattle.state.specs.declared.State.{State}
 use Rattle.fields.specs.declared.Limits.{Limits}
@@ -11,16 +12,12 @@ use Rattle.keep_out.specs.declared.KeepOut.{KeepOut}
 use Rattle.keep_out_table.specs.declared.KeepOuts.{KeepOuts}
 use Rattle.tree.specs.Table.{node_at_of, root_of}
 use Rattle.tree.specs.declared.NodeAt.{NodeAt}
-use Rattle.tree.specs.declared.NodeAt.TheVariants as node
 use Rattle.plan.specs.Plan.{Planner, unset, set, view_of}
 use Rattle.plan.specs.Setup.{Told, setting_of, setup_with, usable_of}
 use Rattle.plan.specs.KeepOut.{add_with}
-use Rattle.star.specs.Grow.{Costed}
-use Rattle.star_run.specs.Run.{StarPlan, star_plan, star_under, tree_of}
+use Rattle.star.specs.Grow.{Costed, tree_of}
+use Rattle.star_run.specs.Run.{StarPlan, star_plan, star_under}
 use Rattle.rrt_star.specs.declared.RrtStar.{RrtStar}
-use Rattle.rrt_star.specs.declared.Answered.{Answered}
-use Rattle.rrt_star.specs.declared.CostAt.{CostAt}
-use Rattle.rrt_star.specs.declared.CostAt.TheVariants.{Cost, Nothing}
 
 abbrev pub View : Type 0
 View = Planner StarPlan Costed
@@ -32,8 +29,9 @@ planner_of p =
 abbrev pub new_of : View
 new_of = unset
 
-abbrev pub answered_of : Answered → Told StarPlan Costed
-answered_of r = record { planner = planner_of r.planner; answer = r.answer }
+-- a planner after a call, and what the call answered
+abbrev pub told_of : RrtStar → Answer → Told StarPlan Costed
+told_of p answer = record { planner = planner_of p; answer = answer }
 
 -- root cost 0
 abbrev pub root_costed : State → Costed
@@ -53,10 +51,10 @@ unfoldable pub size_of : View → ℕ
 size_of unset = 0
 size_of (set plan tree) = length tree.nodes.states
 
-unfoldable pub node_of : View → ℕ → NodeAt
-node_of unset i = node.Nothing
+unfoldable pub node_of : View → ℕ → Option NodeAt
+node_of unset i = None
 node_of (set plan tree) i = node_at_of tree.nodes i
 
-unfoldable pub cost_of : View → ℕ → CostAt
-cost_of unset i = Nothing
-cost_of (set plan tree) i = cond (ltb i (length tree.nodes.states)) (Cost (get_or tree.costs i nan)) Nothing
+unfoldable pub cost_of : View → ℕ → Option Float
+cost_of unset i = None
+cost_of (set plan tree) i = cond (ltb i (length tree.nodes.states)) (Some (get_or tree.costs i nan)) None

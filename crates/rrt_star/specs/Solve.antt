@@ -4,11 +4,7 @@ use Rattle.state.specs.declared.State.{State}
 use Rattle.plan.specs.Solve.{Ended, Outcome, solve_with}
 use Rattle.star.specs.Grow.{Costed}
 use Rattle.star_run.specs.Run.{StarPlan, run_of}
-use Rattle.rrt_star.specs.Planner.{View, planner_of}
-use Rattle.rrt_star.specs.declared.Solved.{Solved}
-
-abbrev pub solved_of : Solved → List Float → Outcome StarPlan Costed
-solved_of r route = record { planner = planner_of r.planner; answer = r.answer; count = r.count; taken = r.taken; route = route }
+use Rattle.rrt_star.specs.Planner.{View}
 
 -- the length that a route buffer needs
 abbrev pub needed : ℕ
