@@ -6,108 +6,54 @@ ghost use Rattle.rrt_connect.specs.Planner.{planner_of};
 ghost use Rattle.connect_calls.specs.Left.{left_by, setup_from, keepout_from, solve_from, call_of};
 
 use grammar::Verb;
-use keep_out_table::KeepOuts;
-use output::{nodes, replies};
+use output::{Out, nodes, replies};
 use rrt_connect::RrtConnect;
-use script::Line;
+use script::{Line, NoCall};
 
-// Whether the call was made, and the planner after it.
-#[derive(Clone, Copy)]
-pub struct Called {
-    pub is_made: bool,
-    pub planner: RrtConnect,
+#[tactic(auto, unfolding(crate::specs::Left::setup_from))]
+fn setup(out: &mut Out, planner: &mut RrtConnect, line: &Line<'_>)
+    ensures { planner_of planner.new ≡ setup_from (planner_of planner.old) line.now.numbers.now line.now.table }
+{
+    let f = given::fields_in(line.numbers);
+    let answer = planner.setup(f.limits, f.segment, f.reach, f.start, f.goal, line.table);
+    replies::answered(out, answer, 0);
 }
 
-fn setup(out: &mut [u8], planner: RrtConnect, numbers: &[f64], table: KeepOuts) -> RrtConnect
-    ensures { planner_of result ≡ setup_from (planner_of planner) numbers.now table }
+#[tactic(auto, unfolding(crate::specs::Left::keepout_from))]
+fn keepout(out: &mut Out, planner: &mut RrtConnect, line: &Line<'_>)
+    ensures { planner_of planner.new ≡ keepout_from (planner_of planner.old) line.now.table }
 {
-    let f = given::fields_in(numbers);
-    let done = planner.setup(f.limits, f.segment, f.reach, f.start, f.goal, table);
-    let answer = done.answer;
+    let answer = planner.add_keep_out(given::keep_out(&line.table));
     replies::answered(out, answer, 0);
-    done.planner
-}
-
-fn keepout(out: &mut [u8], planner: RrtConnect, table: KeepOuts) -> RrtConnect
-    ensures { planner_of result ≡ keepout_from (planner_of planner) table }
-{
-    let done = planner.add_keep_out(given::keep_out(table));
-    let answer = done.answer;
-    replies::answered(out, answer, 0);
-    done.planner
 }
 
 // The route buffer is the first capacity numbers of a fresh one.
-fn solve(out: &mut [u8], planner: RrtConnect, capacity: usize, samples: &[f64]) -> RrtConnect
-    ensures { planner_of result ≡ solve_from (planner_of planner) capacity samples.now }
+#[tactic(auto, unfolding(crate::specs::Left::solve_from))]
+fn solve(out: &mut Out, planner: &mut RrtConnect, line: &Line<'_>)
+    ensures { planner_of planner.new ≡ solve_from (planner_of planner.old) line.now.capacity line.now.numbers.now }
 {
     let mut buffer = route_buffer::fresh();
-    let route = route_buffer::first(&mut buffer, capacity);
-    let done = planner.solve(samples, route);
-    let answer = done.answer;
-    replies::routed(out, answer, done.count, done.taken, route);
-    done.planner
+    let route = route_buffer::first(&mut buffer, line.capacity);
+    let solved = planner.solve(line.numbers, route);
+    replies::routed(out, solved.answer, solved.count, solved.taken, route);
 }
 
-fn start_table(out: &mut [u8], planner: RrtConnect) {
-    let size = planner.start_size();
-    let mut used = nodes::heading(out, 0, b"start", size);
-    let mut i: usize = 0;
-    while i < size {
-        used = nodes::node(out, used, i, planner.start_node(i));
-        used = output::byte(out, used, b'\n');
-        i += 1;
-    }
-    output::flush(out, used);
+fn tables(out: &mut Out, planner: &RrtConnect) {
+    nodes::table(out, b"start", planner.start_size(), |i| planner.start_node(i));
+    nodes::table(out, b"goal", planner.goal_size(), |i| planner.goal_node(i));
 }
 
-fn goal_table(out: &mut [u8], planner: RrtConnect) {
-    let size = planner.goal_size();
-    let mut used = nodes::heading(out, 0, b"goal", size);
-    let mut i: usize = 0;
-    while i < size {
-        used = nodes::node(out, used, i, planner.goal_node(i));
-        used = output::byte(out, used, b'\n');
-        i += 1;
-    }
-    output::flush(out, used);
-}
-
-// The numbers are all that the line has.
-pub fn call(out: &mut [u8], planner: RrtConnect, line: Line, numbers: &[f64]) -> Called
-    ensures { left_by result ≡ call_of (planner_of planner) line numbers.now }
+// Makes a call and writes what it answers, if the planner has such a one.
+#[tactic(auto, unfolding(crate::specs::Left::call_of, grammar::specs::Calls::tree_call))]
+pub fn call(out: &mut Out, planner: &mut RrtConnect, line: &Line<'_>) -> Result<(), NoCall>
+    ensures { left_by planner.new result ≡ call_of (planner_of planner.old) line.now }
 {
-    let verb = line.verb;
-    match verb {
-        Verb::Setup => {
-            let table = line.table;
-            Called {
-                is_made: true,
-                planner: setup(out, planner, numbers, table),
-            }
-        }
-        Verb::Keepout => {
-            let table = line.table;
-            Called {
-                is_made: true,
-                planner: keepout(out, planner, table),
-            }
-        }
-        Verb::Solve => Called {
-            is_made: true,
-            planner: solve(out, planner, line.capacity, numbers),
-        },
-        Verb::Tables => {
-            start_table(out, planner);
-            goal_table(out, planner);
-            Called {
-                is_made: true,
-                planner,
-            }
-        }
-        _ => Called {
-            is_made: false,
-            planner,
-        },
+    match line.verb {
+        Verb::Setup => setup(out, planner, line),
+        Verb::Keepout => keepout(out, planner, line),
+        Verb::Solve => solve(out, planner, line),
+        Verb::Tables => tables(out, planner),
+        _ => return Err(NoCall),
     }
+    Ok(())
 }

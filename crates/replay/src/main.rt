@@ -4,10 +4,13 @@
 
 mod calls;
 
+use input::Reader;
+use output::Out;
+
 fn main(rt: HostRuntime) {
-    let mut bytes = [0u8; 65536];
-    let mut out = [0u8; 4096];
+    let mut reader = Reader::new(rt.stdin());
+    let mut out = Out::new(rt.stdout());
     // The most numbers that a line may have.
     let mut space = [0.0f64; 24576];
-    calls::run(rt.stdin(), &mut bytes, &mut out, &mut space);
+    calls::run(&mut reader, &mut out, &mut space);
 }

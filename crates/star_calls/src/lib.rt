@@ -6,121 +6,80 @@ ghost use Rattle.rrt_star.specs.Planner.{planner_of};
 ghost use Rattle.star_calls.specs.Left.{left_by, setup_from, keepout_from, solve_from, call_of};
 
 use grammar::Verb;
-use keep_out_table::KeepOuts;
-use output::{nodes, replies};
-use rrt_star::{CostAt, RrtStar};
-use script::Line;
-
-// Whether the call was made, and the planner after it.
-#[derive(Clone, Copy)]
-pub struct Called {
-    pub is_made: bool,
-    pub planner: RrtStar,
-}
+use output::{Out, nodes, replies};
+use rrt_star::RrtStar;
+use script::{Line, NoCall};
 
 // One number more than the other tree planners: search_radius, after max_distance.
-fn setup(out: &mut [u8], planner: RrtStar, numbers: &[f64], table: KeepOuts) -> RrtStar
-    ensures { planner_of result ≡ setup_from (planner_of planner) numbers.now table }
+#[tactic(auto, unfolding(crate::specs::Left::setup_from))]
+fn setup(out: &mut Out, planner: &mut RrtStar, line: &Line<'_>)
+    ensures { planner_of planner.new ≡ setup_from (planner_of planner.old) line.now.numbers.now line.now.table }
 {
-    let limits = given::limits(numbers);
-    let segment = given::length(numbers, 6);
-    let max_distance = given::length(numbers, 7);
-    let search_radius = given::length(numbers, 8);
-    let start = given::state(numbers, 9);
-    let goal = given::goal(numbers, 12);
-    let done = planner.setup(
+    let limits = given::limits(line.numbers);
+    let segment = given::length(line.numbers, 6);
+    let max_distance = given::length(line.numbers, 7);
+    let search_radius = given::length(line.numbers, 8);
+    let start = given::state(line.numbers, 9);
+    let goal = given::goal(line.numbers, 12);
+    let answer = planner.setup(
         limits,
         segment,
         max_distance,
         search_radius,
         start,
         goal,
-        table,
+        line.table,
     );
-    let answer = done.answer;
     replies::answered(out, answer, 0);
-    done.planner
 }
 
-fn keepout(out: &mut [u8], planner: RrtStar, table: KeepOuts) -> RrtStar
-    ensures { planner_of result ≡ keepout_from (planner_of planner) table }
+#[tactic(auto, unfolding(crate::specs::Left::keepout_from))]
+fn keepout(out: &mut Out, planner: &mut RrtStar, line: &Line<'_>)
+    ensures { planner_of planner.new ≡ keepout_from (planner_of planner.old) line.now.table }
 {
-    let done = planner.add_keep_out(given::keep_out(table));
-    let answer = done.answer;
+    let answer = planner.add_keep_out(given::keep_out(&line.table));
     replies::answered(out, answer, 0);
-    done.planner
 }
 
 // The route buffer is the first capacity numbers of a fresh one.
-fn solve(out: &mut [u8], planner: RrtStar, capacity: usize, samples: &[f64]) -> RrtStar
-    ensures { planner_of result ≡ solve_from (planner_of planner) capacity samples.now }
+#[tactic(auto, unfolding(crate::specs::Left::solve_from))]
+fn solve(out: &mut Out, planner: &mut RrtStar, line: &Line<'_>)
+    ensures { planner_of planner.new ≡ solve_from (planner_of planner.old) line.now.capacity line.now.numbers.now }
 {
     let mut buffer = route_buffer::fresh();
-    let route = route_buffer::first(&mut buffer, capacity);
-    let done = planner.solve(samples, route);
-    let answer = done.answer;
-    replies::routed(out, answer, done.count, done.taken, route);
-    done.planner
+    let route = route_buffer::first(&mut buffer, line.capacity);
+    let solved = planner.solve(line.numbers, route);
+    replies::routed(out, solved.answer, solved.count, solved.taken, route);
 }
 
-// What a node costs, after its three numbers.
-fn cost(out: &mut [u8], used: usize, cost: CostAt) -> usize {
-    match cost {
-        CostAt::Cost(x) => {
-            let used = output::byte(out, used, b' ');
-            output::float(out, used, x)
-        }
-        CostAt::Nothing => used,
-    }
-}
-
-fn tables(out: &mut [u8], planner: RrtStar) {
+// A node's cost stands after its three numbers.
+fn tables(out: &mut Out, planner: &RrtStar) {
     let size = planner.size();
-    let mut used = nodes::heading(out, 0, b"tree", size);
-    let mut i: usize = 0;
-    while i < size {
-        used = nodes::node(out, used, i, planner.node(i));
-        used = cost(out, used, planner.cost(i));
-        used = output::byte(out, used, b'\n');
-        i += 1;
+    nodes::heading(out, b"tree", size);
+    for i in 0..size {
+        if let Some(node) = planner.node(i) {
+            nodes::node(out, i, node);
+        }
+        if let Some(cost) = planner.cost(i) {
+            out.byte(b' ');
+            out.float(cost);
+        }
+        out.byte(b'\n');
     }
-    output::flush(out, used);
+    out.flush();
 }
 
-// The numbers are all that the line has.
-pub fn call(out: &mut [u8], planner: RrtStar, line: Line, numbers: &[f64]) -> Called
-    ensures { left_by result ≡ call_of (planner_of planner) line numbers.now }
+// Makes a call and writes what it answers, if the planner has such a one.
+#[tactic(auto, unfolding(crate::specs::Left::call_of, grammar::specs::Calls::tree_call))]
+pub fn call(out: &mut Out, planner: &mut RrtStar, line: &Line<'_>) -> Result<(), NoCall>
+    ensures { left_by planner.new result ≡ call_of (planner_of planner.old) line.now }
 {
-    let verb = line.verb;
-    match verb {
-        Verb::Setup => {
-            let table = line.table;
-            Called {
-                is_made: true,
-                planner: setup(out, planner, numbers, table),
-            }
-        }
-        Verb::Keepout => {
-            let table = line.table;
-            Called {
-                is_made: true,
-                planner: keepout(out, planner, table),
-            }
-        }
-        Verb::Solve => Called {
-            is_made: true,
-            planner: solve(out, planner, line.capacity, numbers),
-        },
-        Verb::Tables => {
-            tables(out, planner);
-            Called {
-                is_made: true,
-                planner,
-            }
-        }
-        _ => Called {
-            is_made: false,
-            planner,
-        },
+    match line.verb {
+        Verb::Setup => setup(out, planner, line),
+        Verb::Keepout => keepout(out, planner, line),
+        Verb::Solve => solve(out, planner, line),
+        Verb::Tables => tables(out, planner),
+        _ => return Err(NoCall),
     }
+    Ok(())
 }
