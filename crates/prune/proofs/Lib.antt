@@ -1,10 +1,10 @@
 pub mod Keep
 pub mod Points
-pub mod Turns
-pub mod Numbered
-pub mod Pruning
 pub mod More
 pub mod Afresh
 pub mod Demand
 pub mod Goes
 pub mod Stood
+pub mod Numbered
+pub mod Turns
+pub mod Pruning

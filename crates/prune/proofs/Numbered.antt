@@ -1,53 +1,90 @@
--- The two tables of numbers, as a milestone goes and as one stays.
+-- The former numbers of those that stay, and the table of the new ones, as a milestone goes and as one stays.
 use Prim.Native.Nat.{ℕ, zero, suc, ◌+◌, ◌<◌, ◌≤◌}
-use mathlib.Core.List.{List}
-use mathlib.Core.Path.{◌≡◌, refl, ◌∙◌}
+use mathlib.Core.Bool.{Bool, true, false, not}
+use mathlib.Core.List.{List, [], ◌∷◌, ◌++◌, append-nil}
+use mathlib.Core.Path.{◌≡◌, refl, sym, ◌∙◌, ap}
 use native.Mathlib.Omega.{arith}
-use native.Mathlib.Decide.{ℕ_discrete}
-use lib.ListN.{length, get_or, set, replicate}
-use lib.Seq.{get_or-set_same, get_or-set_other}
-use Rattle.prune.specs.Numbers.{Numbers}
+use native.Mathlib.Numerals.{add-one}
+use native.Mathlib.Decide.{ℕ_discrete, dec_lt}
+use lib.ListN.{length, get_or, set, replicate, length-append, get_or-append}
+use lib.Seq.{get_or-set_same, get_or-set_other, get_or_at}
+use Rattle.std.specs.Prelude.{Option, Some, None}
+use Rattle.state.specs.Rows.{state_at}
+use Rattle.state.specs.declared.State.{State}
+use Rattle.keep_out.specs.Covers.{covers_of}
+use Rattle.keep_out.specs.declared.KeepOut.{KeepOut}
+use Rattle.roadmap.specs.Keep.{keep_of}
+use Rattle.roadmap.specs.View.{span_of}
+use Rattle.roadmap.proofs.Span.{span_snoc, span_long}
+use Rattle.prune.specs.Numbers.{itself, stayed_of, Numbers}
+use Rattle.prune.proofs.Keep.{keep_append, fewer}
 
-pub none : (o : ℕ) → o < 0 → ⊥
-none o h = omega arith
+number_snoc : (i : ℕ) → span_of 0 (i + 1) itself ≡ span_of 0 i itself ++ (i ∷ [])
+number_snoc i = let e : 0 + i ≡ i = omega arith in rw (add-one i) (span_snoc 0 i itself ∙ ap (λ (j : ℕ). span_of 0 i itself ++ (j ∷ [])) e)
 
--- a table that is cleared to one repeated entry
-pub filled : (k x o : ℕ) → o < k → get_or (replicate k x) o 0 ≡ x
-filled zero x o h = absurd (none o h)
-filled (suc k) x zero h = refl
-filled (suc k) x (suc o) h = filled k x o (omega arith)
+module _ (k : KeepOut) (states : List State) (i : ℕ) where
+  abbrev stays : ℕ → Bool
+  stays o = not (covers_of k (state_at states o))
 
--- only those before i that stay have a new number
-abbrev Placed : List ℕ → ℕ → ℕ → Type 0
-Placed at n i = (o : ℕ) → o < 256 → get_or at o 0 < 256 → (o < i) × (get_or at o 0 < n)
+  pub stayed_gone : covers_of k (state_at states i) ≡ true → stayed_of k states (i + 1) ≡ stayed_of k states i
+  unfolding stayed_of keep_of
+  stayed_gone e = rw (number_snoc i, keep_append stays (span_of 0 i itself) (i ∷ []), e) (append-nil (keep_of stays (span_of 0 i itself)))
 
-module _ (old at : List ℕ) (n i : ℕ) (w : Numbers old at n i) where
-  pub numbers_gone : i < 256 → n ≤ 256 → Placed at n i → Numbers old at n (i + 1)
-  numbers_gone inside few placed =
+  pub stayed_more : covers_of k (state_at states i) ≡ false → stayed_of k states (i + 1) ≡ stayed_of k states i ++ (i ∷ [])
+  unfolding stayed_of keep_of
+  stayed_more e = rw (number_snoc i, keep_append stays (span_of 0 i itself) (i ∷ []), e)
+
+  pub stayed_few : length (stayed_of k states i) ≤ i
+  unfolding stayed_of
+  stayed_few = omega (arith, fewer stays (span_of 0 i itself), span_long 0 i itself)
+
+none : (o x : ℕ) → ◌≡◌ {A = Option ℕ} (get_or (replicate x None) o None) None
+none o zero = refl
+none zero (suc x) = refl
+none (suc o) (suc x) = none o x
+
+pub numbers_none : (x : ℕ) → Numbers [] (replicate x None) 0
+numbers_none x =
+    record {
+      below = λ j h. absurd (over j h);
+      back = λ j h. absurd (over j h);
+      there = λ o j e. let z : None ≡ Some j = sym (none o x) ∙ e in cc;
+    }
+  where
+    over : (j : ℕ) → j < 0 → ⊥
+    over j h = omega arith
+
+module _ {old : List ℕ} {at : List (Option ℕ)} {i : ℕ} (w : Numbers old at i) where
+  pub numbers_gone : Numbers old at (i + 1)
+  numbers_gone = record { below = λ j h. omega (arith, w.below j h); back = w.back; there = w.there }
+
+  pub numbers_kept : {n : ℕ} → n ≡ length old → i < length at → Numbers (old ++ (i ∷ [])) (set at i (Some n)) (i + 1)
+  numbers_kept {n} many room =
       record {
-        below = λ j h. omega (arith, w.below j h);
-        back = w.back;
-        there = λ o h l. w.there o (let z = (placed o (omega arith) (omega arith)).0 in z) l;
-      }
-
-  pub numbers_kept : n < 256 → i < 256 → n < length old → i < length at → Placed at n i → Numbers (set old n i) (set at i n) (n + 1) (i + 1)
-  numbers_kept room inside roomy long placed =
-      record {
-        below = λ j h. elim (ℕ_discrete j n) [ yes e ↦ rw (e, get_or-set_same old n i 0 roomy) (omega arith) | no e ↦ rw (get_or-set_other old n j i 0 e) (omega (arith, w.below j (omega arith))) ];
-        back = λ j h. elim (ℕ_discrete j n) [
-          | yes e ↦ rw (e, get_or-set_same old n i 0 roomy) (get_or-set_same at i n 0 long)
-          | no e ↦ rw (get_or-set_other old n j i 0 e) (get_or-set_other at i (get_or old j 0) n 0 (λ z. omega (arith, w.below j (omega arith))) ∙ w.back j (omega arith))
+        below = λ j h. elim (dec_lt j (length old)) [ yes l ↦ rw (before j l) (omega (arith, w.below j l)) | no l ↦ rw (last j (end j h l)) (omega arith) ];
+        back = λ j h. elim (dec_lt j (length old)) [
+          | yes l ↦ rw (before j l) (get_or-set_other at i (get_or old j 0) (Some n) None (λ z. omega (arith, w.below j l)) ∙ w.back j l)
+          | no l ↦ rw (last j (end j h l)) (get_or-set_same at i (Some n) None room ∙ ap Some (many ∙ sym (end j h l)))
         ];
-        there = λ o h. elim (ℕ_discrete o i) [
-          | yes e ↦ rw (e, get_or-set_same at i n 0 long) (λ l. get_or-set_same old n i 0 roomy)
-          | no e ↦ rw (get_or-set_other at i o n 0 e) (λ l. let z = placed o (omega arith) (omega arith) in get_or-set_other old n (get_or at o 0) i 0 (λ q. omega (arith, z.1)) ∙ w.there o z.0 z.1)
+        there = λ o j e. elim (ℕ_discrete o i) [
+          | yes q ↦
+              (let z : Some n ≡ Some j = sym (get_or-set_same at i (Some n) None room) ∙ ap (λ (x : ℕ). get_or (set at i (Some n)) x None) (sym q) ∙ e in
+              let y : j ≡ length old = cc in
+              (omega (arith, long), last j y ∙ sym q))
+          | no q ↦
+              (let z = w.there o j (sym (get_or-set_other at i o (Some n) None q) ∙ e) in
+              (omega (arith, long, z.0), before j z.0 ∙ z.1))
         ];
       }
+    where
+      long : length (old ++ (i ∷ [])) ≡ length old + 1
+      long = length-append old (i ∷ [])
 
-module _ (old at : List ℕ) (n i : ℕ) where
-  pub placed_kept : i < length at → Placed at n i → Placed (set at i n) (n + 1) (i + 1)
-  placed_kept long placed o h =
-      elim (ℕ_discrete o i) [
-        | yes e ↦ rw (e, get_or-set_same at i n 0 long) (λ l. (omega arith, omega arith))
-        | no e ↦ rw (get_or-set_other at i o n 0 e) (λ l. let z = placed o h l in (omega (arith, z.0), omega (arith, z.1)))
-      ]
+      before : (j : ℕ) → j < length old → get_or (old ++ (i ∷ [])) j 0 ≡ get_or old j 0
+      before j l = get_or-append old (i ∷ []) 0 j l
+
+      last : (j : ℕ) → j ≡ length old → get_or (old ++ (i ∷ [])) j 0 ≡ i
+      last j e = get_or_at old i [] 0 j (sym e)
+
+      end : (j : ℕ) → j < length (old ++ (i ∷ [])) → (j < length old → ⊥) → j ≡ length old
+      end j h l = omega (arith, long)

@@ -1,58 +1,47 @@
 -- The walk over a motion's checked points: what one turn of its loop does to the definition, and the cases of the test.
-use Prim.Native.Nat.{ℕ, suc, ◌+◌, ◌-◌, ◌≤◌, ◌<◌}
-use mathlib.Core.Bool.{Bool, true, false, cond}
+use Prim.Native.Nat.{ℕ, zero, suc, ◌+◌, ◌≤◌, ◌<◌}
+use mathlib.Core.Bool.{Bool, true, false, cond, ◌||◌, or-false}
 use mathlib.Core.List.{List, [], ◌∷◌}
 use mathlib.Core.Path.{◌≡◌, refl, sym, ◌∙◌}
 use native.Mathlib.Omega.{arith}
 use borrow.Author.Tests.{le-leb, lt-leb}
 use lib.Ieee.{Float}
+use Rattle.std.specs.List.{list_any, range_with_len}
 use Rattle.laws.specs.Order.{whether, clash}
 use Rattle.state.specs.declared.State.{State}
 use Rattle.keep_out.specs.Covers.{covers_of}
 use Rattle.keep_out.specs.declared.KeepOut.{KeepOut}
-use Rattle.motion.specs.declared.Steps.TheVariants.{Count, Many}
+use Rattle.std.specs.Prelude.{Some, None}
 use Rattle.motion.specs.Points.{Checked, too_many, points, part_way, part_ways, tested_of, steps_of, checked_at, checked_of}
 use Rattle.prune.specs.Hit.{meets_of, hit_among, hit_of, CoversPoint}
 
+either : (b c : Bool) → cond b true c ≡ b || c
+either true c = refl
+either false c = refl
+
 module _ (k : KeepOut) (from to : State) (n : ℕ) where
-  -- what is left of the walk at the i-th point
-  abbrev pub met_at : ℕ → Bool
-  met_at i = meets_of k (part_ways from to n i (n + 1 - i))
+  abbrev pub covers_way : ℕ → Bool
+  covers_way i = covers_of k (part_way from to n i)
 
-  pub met_end : (i : ℕ) → n < i → met_at i ≡ false
+  -- the points by their numbers
+  meets_any : (i m : ℕ) → meets_of k (part_ways from to n i m) ≡ list_any covers_way (range_with_len i m)
   unfolding meets_of part_ways
-  met_end i h = let j : n + 1 - i ≡ 0 = omega arith in rw j
-
-  module _ (i : ℕ) (s : State) (h : i ≤ n) (is : s ≡ part_way from to n i) where
-    at_point : met_at i ≡ cond (covers_of k s) true (met_at (i + 1))
-    unfolding meets_of part_ways
-    at_point = let j : n + 1 - i ≡ suc (n + 1 - (i + 1)) = omega arith in rw (j, ← is)
-
-    pub met_stop : covers_of k s ≡ true → met_at i ≡ true
-    met_stop e = at_point ∙ rw e
-
-    pub met_past : covers_of k s ≡ false → met_at i ≡ met_at (i + 1)
-    met_past e = at_point ∙ rw e
+  meets_any i zero = refl
+  meets_any i (suc m) = rw (meets_any (i + 1) m) (either (covers_way i) (list_any covers_way (range_with_len (i + 1) m)))
 
 module _ (segment : Float) (k : KeepOut) (from to : State) where
-  pub hit_many : Many ≡ steps_of segment from to → false ≡ hit_of segment k from to
+  pub hit_many : None ≡ steps_of segment from to → false ≡ hit_of segment k from to
   unfolding hit_of checked_of checked_at hit_among
   hit_many e = rw (← e)
 
-  module _ (n : ℕ) (e : Count n ≡ steps_of segment from to) where
-    either : (b : Bool) → cond b true false ≡ b
-    either true = refl
-    either false = refl
-
+  module _ (n : ℕ) (e : Some n ≡ steps_of segment from to) where
     pub hit_near : n ≤ 1 → covers_of k to ≡ hit_of segment k from to
     unfolding hit_of checked_of checked_at hit_among tested_of meets_of
-    hit_near h = rw (← e, le-leb n 1 h) (sym (either (covers_of k to)))
+    hit_near h = rw (← e, le-leb n 1 h) (sym (either (covers_of k to) false ∙ or-false (covers_of k to)))
 
-    pub hit_walk : 1 < n → hit_of segment k from to ≡ met_at k from to n 1
+    pub hit_walk : 1 < n → list_any (covers_way k from to n) (range_with_len 1 n) ≡ hit_of segment k from to
     unfolding hit_of checked_of checked_at hit_among tested_of
-    hit_walk h =
-        let j : n + 1 - 1 ≡ n = omega arith in
-        rw (← e, lt-leb n 1 h, j)
+    hit_walk h = rw (← e, lt-leb n 1 h) (sym (meets_any k from to n 1 n))
 
 -- what a hit is: one of the checked points is covered
 module _ (k : KeepOut) where

@@ -1,11 +1,14 @@
--- The walk of pruning over its tables: what holds when a milestone is reached, and what one turn makes of it.
+-- The walk of pruning over a roadmap: what holds when a milestone is reached, and what one turn makes of it.
 use Prim.Native.Nat.{ℕ, ◌+◌, ◌-◌, ◌<◌, ◌≤◌, min}
 use mathlib.Core.Bool.{Bool, true, false, not, ◌&&◌}
-use mathlib.Core.List.{List, [], ◌∷◌, ◌++◌}
+use mathlib.Core.List.{List, [], ◌∷◌}
 use mathlib.Core.Path.{◌≡◌, refl, sym, ◌∙◌, ap}
 use native.Mathlib.Omega.{arith}
-use lib.ListN.{length, get_or, set, length-set, replicate}
+use lib.ListN.{length, get_or, set, length-set, length-append, replicate, take}
+use lib.Seq.{get_or-take}
 use lib.Ieee.{Float}
+use Rattle.std.specs.Prelude.{Option, Some, None}
+use Rattle.state.specs.Rows.{state_at}
 use Rattle.state.specs.declared.State.{State}
 use Rattle.keep_out.specs.Covers.{covers_of}
 use Rattle.keep_out.specs.declared.KeepOut.{KeepOut}
@@ -13,137 +16,107 @@ use Rattle.legs.specs.Bits.{leg_at}
 use Rattle.roadmap.specs.declared.Roadmap.{Roadmap}
 use Rattle.roadmap.specs.Keep.{keep_of}
 use Rattle.roadmap.specs.Map.{Milestone, add_of}
-use Rattle.state.specs.Rows.{row_at}
-use Rattle.roadmap.specs.View.{span_of, view_of, milestones_of, Clean, Joins}
-use Rattle.roadmap.proofs.View.{clean}
-use Rattle.roadmap.proofs.Grows.{view_add, clean_add}
+use Rattle.roadmap.specs.View.{span_of, view_of, milestones_of, empty_of, pushed_of, Clean, Joins}
+use Rattle.roadmap.proofs.View.{view_long, empty_clean}
+use Rattle.roadmap.proofs.Grows.{push_add, push_clean, push_sized}
 use Rattle.prune.specs.Hit.{hit_of}
-use Rattle.prune.specs.Prune.{pruned_of}
-use Rattle.prune.specs.Numbers.{Numbers}
-use Rattle.prune.proofs.Numbered.{none, filled, numbers_gone, numbers_kept, placed_kept}
-use Rattle.prune.proofs.Turns.{itself, stands, old_more, left_kept, kept_gone, kept_more, leaves_at, turn_gone, turn_kept, turn_end}
+use Rattle.prune.specs.Prune.{left_of, pruned_of}
+use Rattle.prune.specs.Numbers.{stayed_of, Numbers}
+use Rattle.prune.proofs.Numbered.{stayed_gone, stayed_more, stayed_few, numbers_none, numbers_gone, numbers_kept}
+use Rattle.prune.proofs.Turns.{left_kept, leaves_at, turn_gone, turn_kept, turn_end}
 
 module _ (map : Roadmap) where
   -- the state of a former number
   abbrev pub was : ℕ → State
-  was = row_at map.az map.el map.feed
+  was = state_at map.milestones
 
   abbrev pub size : ℕ
   size = min map.count 256
 
+  -- its places that hold milestones
+  module _ (held : List State) (many : length held ≡ length (milestones_of map)) where
+    pub held_long : length held ≡ size
+    unfolding milestones_of
+    held_long = many ∙ view_long map.milestones map.legs size
+
+    pub held_state : held ≡ take map.count map.milestones → (i : ℕ) → i < length held → state_at held i ≡ was i
+    held_state is i h =
+        let inside : i < map.count = omega (arith, held_long) in
+        ap (λ (l : List State). state_at l i) is ∙ get_or-take map.count map.milestones i _ inside
+
 module _ (map : Roadmap) (k : KeepOut) (segment : Float) where
+  abbrev pub stayed : ℕ → List ℕ
+  stayed = stayed_of k map.milestones
+
   -- the leg that the i-th of the former numbers keeps to the j-th that stays
-  abbrev pub keeps : List ℕ → ℕ → ℕ → Bool
-  keeps old i j = leg_at map.legs i (get_or old j 0) && not (hit_of segment k (was map i) (was map (get_or old j 0)))
+  abbrev pub keeps : ℕ → ℕ → Bool
+  keeps i j = leg_at map.legs i (get_or (stayed i) j 0) && not (hit_of segment k (was map i) (was map (get_or (stayed i) j 0)))
+
+  left_is : (i : ℕ) → i ≤ size map → left_of (covers_of k) (hit_of segment k) (was map i) (span_of 0 i (was map)) (span_of 0 (size map) (leg_at map.legs i)) ≡ span_of 0 (length (stayed i)) (keeps i)
+  unfolding stayed_of
+  left_is i h = left_kept (covers_of k) (hit_of segment k) (was map) (was map i) (leg_at map.legs i) i (size map) h
 
   -- what the walk gives from the i-th milestone on
   abbrev pub leaves : List Milestone → ℕ → List Milestone
   leaves kept i = leaves_at (covers_of k) (hit_of segment k) (was map) (leg_at map.legs) (size map) kept i
 
-  -- what holds when the milestone i is reached: n stay so far, and these tables have them
-  pub record Pruning (az el feed : List Float) (legs old at : List ℕ) (n i : ℕ) : Type 0 where
-    pub within : i ≤ size map
-    pub few : n ≤ i
-    pub az_sized : length az ≡ 256
-    pub el_sized : length el ≡ 256
-    pub feed_sized : length feed ≡ 256
-    pub legs_sized : length legs ≡ 1024
-    pub old_sized : length old ≡ 256
+  -- what holds when the milestone i is reached: this roadmap has those that stay so far, and the table their new numbers
+  pub record Pruning (left : Roadmap) (at : List (Option ℕ)) (i : ℕ) : Type 0 where
+    pub many : left.count ≡ length (stayed i)
+    pub sized : length left.milestones ≡ 256
     pub at_sized : length at ≡ 256
     -- no leg beyond those that stay
-    pub clean : Clean legs n
-    -- the former numbers of those that stay, and back; no other has a new number
-    pub table : Numbers old at n i
-    pub placed : (o : ℕ) → o < 256 → get_or at o 0 < 256 → (o < i) × (get_or at o 0 < n)
-    pub numbers : span_of 0 n (λ (j : ℕ). get_or old j 0) ≡ keep_of (stands (covers_of k) (hit_of segment k) (was map)) (span_of 0 i itself)
-    pub is : pruned_of segment k (milestones_of map) ≡ leaves (view_of az el feed legs n) i
+    pub clean : Clean left.legs left.count
+    pub table : Numbers (stayed i) at i
+    pub is : pruned_of segment k (milestones_of map) ≡ leaves (milestones_of left) i
 
-  pub prune_starts :
-      (az el feed : List Float) (old : List ℕ) → length az ≡ 256 → length el ≡ 256 → length feed ≡ 256 → length old ≡ 256 →
-      Pruning az el feed (replicate 1024 0) old (replicate 256 256) 0 0
-  unfolding pruned_of milestones_of view_of span_of keep_of
-  prune_starts az el feed old p q r u =
+  pub prune_starts : Pruning empty_of (replicate 256 None) 0
+  unfolding pruned_of milestones_of view_of span_of keep_of stayed_of empty_of
+  prune_starts =
       let e : size map - 0 ≡ size map = omega arith in
-      record {
-        within = omega arith;
-        few = omega arith;
-        az_sized = p;
-        el_sized = q;
-        feed_sized = r;
-        legs_sized = refl;
-        old_sized = u;
-        at_sized = refl;
-        clean = clean 1024 0;
-        table = record { below = λ j h. omega arith; back = λ j h. absurd (none j h); there = λ o h l. absurd (none o h) };
-        placed = λ o h l. absurd (over o h l);
-        numbers = refl;
-        is = rw e;
-      }
-    where
-      over : (o : ℕ) → o < 256 → get_or (replicate 256 256) o 0 < 256 → ⊥
-      over o h l = omega (arith, filled 256 256 o h)
+      record { many = refl; sized = refl; at_sized = refl; clean = empty_clean; table = numbers_none 256; is = rw e }
 
-module _ {map : Roadmap} {k : KeepOut} {segment : Float} {az el feed : List Float} {legs old at : List ℕ} {n i : ℕ}
-    (h : Pruning map k segment az el feed legs old at n i) where
-  -- at the end these tables are the roadmap
-  pub prune_ends : size map ≤ i → view_of az el feed legs n ≡ pruned_of segment k (milestones_of map)
+module _ {map : Roadmap} {k : KeepOut} {segment : Float} {left : Roadmap} {at : List (Option ℕ)} {i : ℕ} (h : Pruning map k segment left at i) where
+  pub few : left.count ≤ i
+  few = omega (arith, h.many, stayed_few k map.milestones i)
+
+  -- at the end this is the roadmap
+  pub prune_ends : size map ≤ i → milestones_of left ≡ pruned_of segment k (milestones_of map)
   prune_ends e = sym (h.is ∙ turn_end (covers_of k) (hit_of segment k) (was map) (leg_at map.legs) (size map) _ i e)
 
-  module _ (more : i < size map) {az' el' feed' : List Float} {legs' old' at' : List ℕ} {n' : ℕ} where
+  module _ (more : i < size map) where
     -- a milestone that is covered goes
-    pub prune_gone :
-        covers_of k (was map i) ≡ true → az' ≡ az → el' ≡ el → feed' ≡ feed → legs' ≡ legs → old' ≡ old → at' ≡ at → n' ≡ n →
-        Pruning map k segment az' el' feed' legs' old' at' n' (i + 1)
-    prune_gone e p q r u v x w =
-        let inside : i < 256 = omega arith in
-        let few : n ≤ 256 = omega (arith, h.few) in
-        rw (p, q, r, u, v, x, w)
+    pub prune_gone : covers_of k (was map i) ≡ true → Pruning map k segment left at (i + 1)
+    prune_gone e =
+        let same = stayed_gone k map.milestones i e in
         record {
-          within = omega arith;
-          few = omega (arith, h.few);
-          az_sized = h.az_sized;
-          el_sized = h.el_sized;
-          feed_sized = h.feed_sized;
-          legs_sized = h.legs_sized;
-          old_sized = h.old_sized;
+          many = h.many ∙ ap length (sym same);
+          sized = h.sized;
           at_sized = h.at_sized;
           clean = h.clean;
-          table = numbers_gone _ _ _ _ h.table inside few h.placed;
-          placed = λ o l m. let z = h.placed o l m in (omega (arith, z.0), z.1);
-          numbers = h.numbers ∙ sym (kept_gone (covers_of k) (hit_of segment k) (was map) i e);
+          table = rw same (numbers_gone h.table);
           is = h.is ∙ turn_gone (covers_of k) (hit_of segment k) (was map) (leg_at map.legs) (size map) _ i more e;
         }
 
     -- another stays, with the legs that it keeps
     pub prune_kept :
-        covers_of k (was map i) ≡ false → Joins legs n n (keeps map k segment old i) legs' →
-        az' ≡ set az n (was map i).az → el' ≡ set el n (was map i).el → feed' ≡ set feed n (was map i).feed → old' ≡ set old n i → at' ≡ set at i n → n' ≡ n + 1 →
-        Pruning map k segment az' el' feed' legs' old' at' n' (i + 1)
-    prune_kept e joins p q r v x w =
-        let room : n < 256 = omega (arith, h.few) in
-        let roomy : n < length old = omega (arith, h.old_sized) in
-        let inside : i < 256 = omega arith in
-        let long : i < length at = omega (arith, h.at_sized) in
-        let grows = view_add az el feed legs n (keeps map k segment old i) legs' (was map i) h.az_sized h.el_sized h.feed_sized room h.clean joins in
-        let flags = left_kept (covers_of k) (hit_of segment k) (was map) (was map i) (leg_at map.legs i) i (size map) n old (omega arith) h.numbers in
-        rw (p, q, r, v, x, w)
+        {legs : List ℕ} → covers_of k (was map i) ≡ false → Joins left.legs left.count left.count (keeps map k segment i) legs →
+        Pruning map k segment (pushed_of (record { milestones = left.milestones; legs = legs; count = left.count }) (was map i)) (set at i (Some left.count)) (i + 1)
+    unfolding pushed_of
+    prune_kept {legs} e joins =
+        let room : left.count < 256 = omega (arith, few) in
+        let inside : i < length at = omega (arith, h.at_sized) in
+        let grows = push_add left (keeps map k segment i) legs (was map i) room h.sized h.clean joins in
+        let flags = left_is map k segment i (omega arith) in
+        let longer = stayed_more k map.milestones i e in
         record {
-          within = omega arith;
-          few = omega (arith, h.few);
-          az_sized = length-set az n (was map i).az ∙ h.az_sized;
-          el_sized = length-set el n (was map i).el ∙ h.el_sized;
-          feed_sized = length-set feed n (was map i).feed ∙ h.feed_sized;
-          legs_sized = joins.long ∙ h.legs_sized;
-          old_sized = length-set old n i ∙ h.old_sized;
-          at_sized = length-set at i n ∙ h.at_sized;
-          clean = clean_add az el feed legs n (keeps map k segment old i) legs' (was map i) h.az_sized h.el_sized h.feed_sized room h.clean joins;
-          table = numbers_kept old at n i h.table room inside roomy long h.placed;
-          placed = placed_kept old at n i long h.placed;
-          numbers =
-              old_more old n i roomy ∙ ap (λ (l : List ℕ). l ++ (i ∷ [])) h.numbers
-              ∙ sym (kept_more (covers_of k) (hit_of segment k) (was map) i e);
+          many = omega (arith, h.many, ap length longer, length-append (stayed map k segment i) (i ∷ []));
+          sized = push_sized left (keeps map k segment i) legs (was map i) room h.sized h.clean joins;
+          at_sized = length-set at i (Some left.count) ∙ h.at_sized;
+          clean = push_clean left (keeps map k segment i) legs (was map i) room h.sized h.clean joins;
+          table = rw longer (numbers_kept h.table h.many inside);
           is =
               h.is ∙ turn_kept (covers_of k) (hit_of segment k) (was map) (leg_at map.legs) (size map) _ i more e
-              ∙ ap (λ (fs : List Bool). leaves map k segment (add_of (view_of az el feed legs n) (was map i) fs) (i + 1)) flags
+              ∙ ap (λ (fs : List Bool). leaves map k segment (add_of (milestones_of left) (was map i) fs) (i + 1)) (flags ∙ ap (λ (n : ℕ). span_of 0 n (keeps map k segment i)) (sym h.many))
               ∙ ap (λ (ms : List Milestone). leaves map k segment ms (i + 1)) (sym grows);
         }

@@ -7,12 +7,18 @@ use native.Mathlib.Omega.{arith}
 use native.Mathlib.Decide.{ℕ_discrete, dec_lt}
 use borrow.Author.Tests.{eq-eqb, ne_eqb, lt-ltb, le-ltb}
 use lib.Dec.{eqb, ltb}
-use lib.ListN.{get_or}
+use lib.ListN.{length, get_or}
+use Rattle.std.specs.Prelude.{Option, Some, None}
 use Rattle.legs.specs.Bits.{leg_at, Linked}
-use Rattle.legs.specs.Next.{Next}
+use Rattle.legs.specs.Next.{Clear, First}
 use Rattle.roadmap.specs.View.{Joins}
 use Rattle.roadmap.proofs.Joins.{regroup, nothing}
-use Rattle.prune.specs.Numbers.{Numbers}
+use Rattle.roadmap.specs.declared.Roadmap.{Roadmap}
+use Rattle.state.specs.Rows.{state_at}
+use Rattle.keep_out.specs.declared.KeepOut.{KeepOut}
+use lib.Ieee.{Float}
+use Rattle.prune.specs.Hit.{hit_of}
+use Rattle.prune.specs.Numbers.{stayed_of, Numbers}
 
 module _ (old : List ℕ) (n : ℕ) (g : ℕ → Bool) where
   -- other flags that are the same below n
@@ -43,53 +49,71 @@ module _ (old : List ℕ) (n : ℕ) (g : ℕ → Bool) where
       unset : (b : ℕ) → ltb b n && g b ≡ false
       unset b = elim (dec_lt b n) [ yes h ↦ rw (e b h) (and-false (ltb b n)) | no h ↦ rw (le-ltb b n (omega arith)) ]
 
-module _ (row hit : ℕ → Bool) (old at : List ℕ) (n i : ℕ) (w : Numbers old at n i) where
+module _ (map : Roadmap) (segment : Float) (k : KeepOut) (i : ℕ) where
+  -- the former number of the j-th that stays
+  abbrev pub former : ℕ → ℕ
+  former j = get_or (stayed_of k map.milestones i) j 0
+
+  -- the legs that stood, and which of them are hit, by the former number
+  abbrev pub row : ℕ → Bool
+  row = leg_at map.legs i
+
+  abbrev pub hit : ℕ → Bool
+  hit x = hit_of segment k (state_at map.milestones i) (state_at map.milestones x)
+
   -- the leg to the j-th that stays, if its former number is below o
   abbrev pub kept_to : ℕ → ℕ → Bool
-  kept_to o j = ltb (get_or old j 0) o && (row (get_or old j 0) && not (hit (get_or old j 0)))
+  kept_to o j = ltb (former j) o && (row (former j) && not (hit (former j)))
 
-  pub kept_none : (r : ℕ) → Next row 0 r → (j : ℕ) → j < n → kept_to r j ≡ false
-  kept_none r next j h =
-      elim (dec_lt (get_or old j 0) r) [
-        | yes l ↦ rw (next.passed (get_or old j 0) (omega arith) l) (and-false (ltb (get_or old j 0) r))
-        | no l ↦ rw (le-ltb (get_or old j 0) r (omega arith))
-      ]
-
-  pub kept_all : (o : ℕ) → i ≤ o → (j : ℕ) → j < n → row (get_or old j 0) && not (hit (get_or old j 0)) ≡ kept_to o j
-  kept_all o l j h = rw (lt-ltb (get_or old j 0) o (omega (arith, w.below j h)))
-
-  module _ (o r : ℕ) (inside : o < i) (here : row o ≡ true) (next : Next row (o + 1) r) where
-    -- another former number
-    other : (j : ℕ) → j < n → (get_or old j 0 ≡ o → ⊥) → kept_to r j ≡ kept_to o j
-    other j h e =
-        elim (dec_lt (get_or old j 0) o) [
-          | yes l ↦ rw (lt-ltb (get_or old j 0) o l, lt-ltb (get_or old j 0) r (omega (arith, next.onward)))
-          | no l ↦
-              elim (dec_lt (get_or old j 0) r) [
-                | yes m ↦ (let past : o + 1 ≤ get_or old j 0 = omega (arith, later l) in rw (next.passed (get_or old j 0) past m, le-ltb (get_or old j 0) o (omega arith)) (and-false (ltb (get_or old j 0) r)))
-                | no m ↦ rw (le-ltb (get_or old j 0) o (omega arith), le-ltb (get_or old j 0) r (omega arith))
-              ]
+  module _ {at : List (Option ℕ)} {n : ℕ} (many : n ≡ length (stayed_of k map.milestones i)) (w : Numbers (stayed_of k map.milestones i) at i) where
+    -- no leg is left from o on
+    pub kept_all : {o : ℕ} → Clear row o i → (j : ℕ) → j < n → row (former j) && not (hit (former j)) ≡ kept_to o j
+    kept_all {o} clear j h =
+        elim (dec_lt (former j) o) [
+          | yes l ↦ rw (lt-ltb (former j) o l)
+          | no l ↦ rw (clear (former j) (omega arith) (w.below j (omega arith)), le-ltb (former j) o (omega arith))
         ]
-      where
-        later : (get_or old j 0 < o → ⊥) → o + 1 ≤ get_or old j 0
-        later l = elim (dec_lt o (get_or old j 0)) [ yes m ↦ omega arith | no m ↦ absurd (e (omega arith)) ]
 
-    -- this one
-    this_to : (j : ℕ) → get_or old j 0 ≡ o → kept_to o j ≡ false
-    this_to j e = rw (e, le-ltb o o (omega arith))
+    -- the next leg goes to o
+    module _ {from o : ℕ} (next : First row from i o) where
+      -- another former number
+      other : (j : ℕ) → (former j ≡ o → ⊥) → kept_to (o + 1) j ≡ kept_to from j
+      other j e =
+          elim (dec_lt (former j) from) [
+            | yes l ↦ rw (lt-ltb (former j) from l, lt-ltb (former j) (o + 1) (omega (arith, next.onward)))
+            | no l ↦
+                elim (dec_lt (former j) o) [
+                  | yes m ↦ rw (next.passed (former j) (omega arith) m, le-ltb (former j) from (omega arith)) (and-false (ltb (former j) (o + 1)))
+                  | no m ↦ rw (le-ltb (former j) (o + 1) (beyond m), le-ltb (former j) from (omega arith))
+                ]
+          ]
+        where
+          beyond : (former j < o → ⊥) → o + 1 ≤ former j
+          beyond m = elim (dec_lt o (former j)) [ yes l ↦ omega arith | no l ↦ absurd (e (omega arith)) ]
 
-    this_past : (j : ℕ) → get_or old j 0 ≡ o → kept_to r j ≡ not (hit o)
-    this_past j e = rw (e, lt-ltb o r (omega (arith, next.onward)), here)
+      -- this one
+      this_from : (j : ℕ) → former j ≡ o → kept_to from j ≡ false
+      this_from j e = rw (e, le-ltb o from next.onward)
 
-    pub kept_hit : hit o ≡ true → (j : ℕ) → j < n → kept_to r j ≡ kept_to o j
-    kept_hit t j h = elim (ℕ_discrete (get_or old j 0) o) [ yes e ↦ this_past j e ∙ rw t (sym (this_to j e)) | no e ↦ other j h e ]
+      this_to : (j : ℕ) → former j ≡ o → kept_to (o + 1) j ≡ not (hit o)
+      this_to j e = rw (e, lt-ltb o (o + 1) (omega arith), next.here)
 
-    pub kept_gone_end : n ≤ get_or at o 0 → (j : ℕ) → j < n → kept_to r j ≡ kept_to o j
-    kept_gone_end l j h = other j h (λ e. let z : get_or at o 0 ≡ j = ap (λ (x : ℕ). get_or at x 0) (sym e) ∙ w.back j h in omega (arith, z))
+      pub kept_hit : hit o ≡ true → (j : ℕ) → j < n → kept_to (o + 1) j ≡ kept_to from j
+      kept_hit t j h = elim (ℕ_discrete (former j) o) [ yes e ↦ this_to j e ∙ rw t (sym (this_from j e)) | no e ↦ other j e ]
 
-    pub kept_free : get_or at o 0 < n → hit o ≡ false → (j : ℕ) → j < n → kept_to r j ≡ kept_to o j || eqb j (get_or at o 0)
-    kept_free l f j h =
-        elim (ℕ_discrete (get_or old j 0) o) [
-          | yes e ↦ (let z : j ≡ get_or at o 0 = sym (w.back j h) ∙ ap (λ (x : ℕ). get_or at x 0) e in this_past j e ∙ rw (f, this_to j e, eq-eqb j (get_or at o 0) z))
-          | no e ↦ other j h e ∙ rw (ne_eqb j (get_or at o 0) (λ z. e (ap (λ (x : ℕ). get_or old x 0) z ∙ w.there o inside l))) (sym (or-false (kept_to o j)))
-        ]
+      pub kept_gone : get_or at o None ≡ None → (j : ℕ) → j < n → kept_to (o + 1) j ≡ kept_to from j
+      kept_gone g j h = other j (λ e. let z : None ≡ Some j = sym g ∙ ap (λ (x : ℕ). get_or at x None) (sym e) ∙ w.back j (omega arith) in cc)
+
+      module _ {x : ℕ} (there : get_or at o None ≡ Some x) where
+        pub kept_at : x < n
+        kept_at = omega (arith, w.there o x there)
+
+        pub kept_free : hit o ≡ false → (j : ℕ) → j < n → kept_to (o + 1) j ≡ kept_to from j || eqb j x
+        kept_free f j h =
+            elim (ℕ_discrete (former j) o) [
+              | yes e ↦
+                  (let z : Some j ≡ Some x = sym (w.back j (omega arith)) ∙ ap (λ (x : ℕ). get_or at x None) e ∙ there in
+                  let y : j ≡ x = cc in
+                  this_to j e ∙ rw (f, this_from j e, eq-eqb j x y))
+              | no e ↦ other j e ∙ rw (ne_eqb j x (λ z. e (ap (λ (x : ℕ). former x) z ∙ (w.there o x there).1))) (sym (or-false (kept_to from j)))
+            ]

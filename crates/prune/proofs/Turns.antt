@@ -1,34 +1,33 @@
 -- What one turn of pruning does to its definition, over the tables that the code has. `gone` and `hit` are any tests.
 use Prim.Native.Nat.{ℕ, zero, suc, ◌+◌, ◌-◌, ◌<◌, ◌≤◌}
 use mathlib.Core.Bool.{Bool, true, false, not, ◌&&◌, cond}
-use mathlib.Core.List.{List, [], ◌∷◌, ◌++◌, map, append-nil}
+use mathlib.Core.List.{List, [], ◌∷◌, ◌++◌, map}
 use mathlib.Core.Path.{◌≡◌, refl, sym, ◌∙◌, ap, ap₂}
 use native.Mathlib.Omega.{arith}
 use native.Mathlib.Numerals.{add-one}
-use lib.ListN.{length, get_or, set}
-use lib.Seq.{get_or-set_same, get_or-set_other}
+use lib.ListN.{length, get_or}
 use Rattle.laws.specs.Order.{whether}
 use Rattle.state.specs.declared.State.{State}
 use Rattle.roadmap.specs.Keep.{keep_of}
 use Rattle.roadmap.specs.Map.{Milestone, add_of}
 use Rattle.roadmap.specs.View.{span_of}
-use Rattle.roadmap.proofs.Span.{span_snoc, span_same, span_map}
+use Rattle.roadmap.proofs.Span.{span_snoc}
 use Rattle.prune.specs.Prune.{left_of, leaves_of}
-use Rattle.prune.proofs.Keep.{keep_append}
-
--- the numbers of a table
-abbrev pub itself : ℕ → ℕ
-itself o = o
+use Rattle.prune.specs.Numbers.{itself}
 
 none : (i : ℕ) → suc i ≤ 0 → ⊥
 none i h = omega arith
 
--- the former numbers of those that stay
-pub old_more : (old : List ℕ) (c i : ℕ) → c < length old → span_of 0 (c + 1) (λ (j : ℕ). get_or (set old c i) j 0) ≡ span_of 0 c (λ (j : ℕ). get_or old j 0) ++ (i ∷ [])
-old_more old c i h =
-    rw (add-one c)
-    (span_snoc 0 c (λ (j : ℕ). get_or (set old c i) j 0)
-    ∙ ap₂ (λ (l : List ℕ) (x : ℕ). l ++ (x ∷ [])) (span_same 0 c (λ (j : ℕ). get_or (set old c i) j 0) (λ (j : ℕ). get_or old j 0) (λ j a b. get_or-set_other old c j i 0 (λ e. omega arith))) (let e : 0 + c ≡ c = omega arith in rw e (get_or-set_same old c i 0 h)))
+shift : {A : Type 0} (i n : ℕ) (f : ℕ → A) → span_of (i + 1) n f ≡ span_of i n (λ (j : ℕ). f (suc j))
+unfolding span_of
+shift i zero f = refl
+shift i (suc n) f = rw (shift (i + 1) n f, add-one i)
+
+-- a list by its numbers
+by_numbers : {A : Type 0} (f : ℕ → A) (l : List ℕ) → map f l ≡ span_of 0 (length l) (λ (j : ℕ). f (get_or l j 0))
+unfolding span_of
+by_numbers f [] = refl
+by_numbers f (x ∷ xs) = rw (shift 0 (length xs) (λ (j : ℕ). f (get_or (x ∷ xs) j 0)), by_numbers f xs)
 
 module _ (gone : State → Bool) (hit : State → State → Bool) (st : ℕ → State) where
   abbrev pub stands : ℕ → Bool
@@ -46,19 +45,11 @@ module _ (gone : State → Bool) (hit : State → State → Bool) (st : ℕ → 
       whether (gone (st b)) (λ e. rw (e, later)) (λ e. rw (e, later))
 
   -- what stays of the legs of a milestone that stays
-  pub left_kept : (s : State) (lg : ℕ → Bool) (i n c : ℕ) (old : List ℕ) → i ≤ n → span_of 0 c (λ (j : ℕ). get_or old j 0) ≡ keep_of stands (span_of 0 i itself) → left_of gone hit s (span_of 0 i st) (span_of 0 n lg) ≡ span_of 0 c (λ (j : ℕ). lg (get_or old j 0) && not (hit s (st (get_or old j 0))))
-  left_kept s lg i n c old h e = left_span s lg 0 i n h ∙ ap (map (still s lg)) (sym e) ∙ span_map 0 c (λ (j : ℕ). get_or old j 0) (still s lg)
-
-  number_snoc : (i : ℕ) → span_of 0 (i + 1) itself ≡ span_of 0 i itself ++ (i ∷ [])
-  number_snoc i = let e : 0 + i ≡ i = omega arith in rw (add-one i) (span_snoc 0 i itself ∙ ap (λ (j : ℕ). span_of 0 i itself ++ (j ∷ [])) e)
-
-  pub kept_gone : (i : ℕ) → gone (st i) ≡ true → keep_of stands (span_of 0 (i + 1) itself) ≡ keep_of stands (span_of 0 i itself)
-  unfolding keep_of
-  kept_gone i e = rw (number_snoc i, keep_append stands (span_of 0 i itself) (i ∷ []), e) (append-nil (keep_of stands (span_of 0 i itself)))
-
-  pub kept_more : (i : ℕ) → gone (st i) ≡ false → keep_of stands (span_of 0 (i + 1) itself) ≡ keep_of stands (span_of 0 i itself) ++ (i ∷ [])
-  unfolding keep_of
-  kept_more i e = rw (number_snoc i, keep_append stands (span_of 0 i itself) (i ∷ []), e)
+  pub left_kept :
+      (s : State) (lg : ℕ → Bool) (i n : ℕ) → i ≤ n →
+      (let old = keep_of stands (span_of 0 i itself) in
+      left_of gone hit s (span_of 0 i st) (span_of 0 n lg) ≡ span_of 0 (length old) (λ (j : ℕ). lg (get_or old j 0) && not (hit s (st (get_or old j 0)))))
+  left_kept s lg i n h = left_span s lg 0 i n h ∙ by_numbers (still s lg) (keep_of stands (span_of 0 i itself))
 
   before_snoc : (i : ℕ) → span_of 0 (i + 1) st ≡ span_of 0 i st ++ (st i ∷ [])
   before_snoc i = let e : 0 + i ≡ i = omega arith in rw (add-one i) (span_snoc 0 i st ∙ ap (λ (j : ℕ). span_of 0 i st ++ (st j ∷ [])) e)

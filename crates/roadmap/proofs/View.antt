@@ -6,7 +6,7 @@ use mathlib.Core.Path.{◌≡◌, refl, sym, ◌∙◌, ap}
 use native.Mathlib.Omega.{arith}
 use borrow.Author.Tests.{lt-ltb, le-ltb}
 use lib.ListN.{length, get_or, take, replicate, length-take}
-use lib.Seq.{get_or-take}
+use lib.Seq.{get_or-take, length-take-le}
 use native.Mathlib.Decide.{dec_lt}
 use Rattle.std.specs.List.{slice_get}
 use Rattle.std.proofs.lemmas.Option.{slice_get-get_or, slice_get_past, slice_get_read}
@@ -83,9 +83,11 @@ module _ (m : Roadmap) (long : length m.milestones ≡ 256) where
   held_long : length (take m.count m.milestones) ≡ few
   held_long = length-take m.count m.milestones ∙ rw long
 
-  pub size_is : length (take m.count m.milestones) ≡ length (milestones_of m)
+  pub held_many : length (take few m.milestones) ≡ length (milestones_of m)
   unfolding milestones_of
-  size_is = held_long ∙ sym (view_long m.milestones m.legs few)
+  held_many =
+      let all : few ≤ length m.milestones = omega (arith, long) in
+      length-take-le few m.milestones all ∙ sym (view_long m.milestones m.legs few)
 
   pub milestone_is : (i : ℕ) → slice_get (take m.count m.milestones) i ≡ milestone_of (milestones_of m) i
   unfolding milestones_of

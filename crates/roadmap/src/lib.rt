@@ -35,7 +35,8 @@ impl Roadmap {
 
     // The places that hold milestones.
     pub fn held(&self) -> &[State]
-        ensures { result.now ≡ take self.now.count self.now.milestones }
+        ensures states { result.now ≡ take self.now.count self.now.milestones }
+        ensures many { length result.now ≡ length (milestones_of self.now) }
     {
         let count = self.count.min(Roadmap::MOST);
         &self.milestones[..count]

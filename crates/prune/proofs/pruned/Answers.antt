@@ -1,51 +1,43 @@
-use Prim.Native.Nat.{ℕ, ◌<◌, min}
-use mathlib.Core.Path.{◌≡◌, refl, sym, ◌∙◌, ap}
+use Prim.Native.Nat.{◌<◌, min}
+use mathlib.Core.Path.{◌≡◌, sym}
 use native.Mathlib.Omega.{arith}
-use Rattle.roadmap.specs.View.{view_of, milestones_of}
-use Rattle.roadmap.proofs.View.{view_long}
-use Rattle.prune.proofs.Pruning.{prune_starts, prune_gone, prune_kept, prune_ends}
+use Rattle.state.specs.Rows.{state_at}
+use Rattle.prune.proofs.Pruning.{was, held_long, held_state, few, prune_starts, prune_gone, prune_kept, prune_ends}
 use Rattle.prune.proofs.pruned.Goals as goal
-use Rattle.prune.proofs.pruned.Goals.{After-keep_legs, In-milestones, else-covers, then-covers}
+use Rattle.prune.proofs.pruned.Goals.{In-loop-i, then-not-covers, else-not-covers}
 
--- what is known in a turn
-module _ (c : In-milestones) where
-  abbrev now-at : ℕ
-  now-at = c.milestones.i
+-- what is known in a turn: the milestone is one of the map's
+more : (c : In-loop-i) → c.loop-i.i < min c.args.map.now.count 256
+more c = omega (arith, held_long c.args.map.now _ c.held-milestone-items.ensures.many)
 
-  more : now-at < min c.args.map.count 256
-  more = omega (arith, c.milestones.invariant.0, c.milestones-test.true)
+state : (c : In-loop-i) → state_at c.held-milestone-items.result.now c.loop-i.i ≡ was c.args.map.now c.loop-i.i
+state c =
+    let held = c.held-milestone-items.ensures in
+    held_state c.args.map.now _ held.many held.states c.loop-i.i c.loop-i-test.true
 
-  inside : now-at < 256
-  inside = omega (arith, more)
-
-  room : c.milestones.count < 256
-  room = omega (arith, inside, c.milestones.invariant.1.few)
-
-pub milestones-init : goal.milestones-init
-unfolding milestones_of
-milestones-init c =
-    let most : c.size-rows.result ≡ min c.args.map.count 256 = c.size-rows.ensures ∙ view_long _ _ _ _ _ in
-    (most, prune_starts _ _ _ _ _ _ _ refl refl refl refl)
+pub loop-i-init : goal.loop-i-init
+loop-i-init c = rw (c.empty-left.ensures) (prune_starts _ _ _)
 
 pub keep_legs-requires : goal.keep_legs-requires
 keep_legs-requires c =
-    let h = c.milestones.invariant.1 in
-    (inside (goal.at.keep_legs-requires c).In-milestones, room (goal.at.keep_legs-requires c).In-milestones, h.legs_sized, h.table)
+    let h = c.loop-i.invariant in
+    let inside = more (goal.at.keep_legs-requires c).In-loop-i in
+    (omega (arith, inside), omega (arith, inside, few h), h.many, h.table)
 
-pub milestones-preserved : goal.milestones-preserved
-milestones-preserved c =
-    let h = c.milestones.invariant in
-    let tested = c.covers.ensures in (
-      h.0,
-      elim c.if-covers.branch [
-        | then-covers w ↦ prune_gone h.1 (more (goal.at.milestones-preserved c).In-milestones) (sym tested ∙ w.if-covers.true) w.az-is w.el-is w.feed-is w.legs-is w.old-is w.at-is w.count-is
-        | else-covers w ↦ prune_kept h.1 (more (goal.at.milestones-preserved c).In-milestones) (sym tested ∙ w.if-covers.false) (rw w.legs-is w.keep_legs.ensures) w.az-is w.el-is w.feed-is w.old-is w.at-is w.count-is
-      ],
-    )
+pub bounds-at-i : goal.bounds-at-i
+bounds-at-i c = omega (arith, more (goal.at.bounds-at-i c).In-loop-i)
+
+pub push-requires : goal.push-requires
+push-requires c = omega (arith, more (goal.at.push-requires c).In-loop-i, few c.loop-i.invariant)
+
+pub loop-i-preserved : goal.loop-i-preserved
+loop-i-preserved c =
+    let h = c.loop-i.invariant in
+    let here = (goal.at.loop-i-preserved c).In-loop-i in
+    elim c.if-not-covers.branch [
+      | then-not-covers w ↦ rw (w.left-is, w.at-is, w.push.ensures, state here) (prune_kept h (more here) (rw (state here) at (sym w.if-not-covers.ensures)) w.keep_legs.ensures)
+      | else-not-covers w ↦ rw (w.left-is, w.at-is) (prune_gone h (more here) (rw (state here) at (sym w.if-not-covers.ensures)))
+    ]
 
 pub returns : goal.returns
-unfolding milestones_of
-returns c =
-    let h = c.milestones in
-    let full : min h.count 256 ≡ h.count = omega (arith, h.invariant.0, h.invariant.1.few, h.invariant.1.within) in
-    ap (view_of h.az h.el h.feed h.legs) full ∙ prune_ends h.invariant.1 (omega (arith, h.invariant.0, c.milestones-test.false))
+returns c = prune_ends c.loop-i.invariant (omega (arith, held_long c.args.map.now _ c.held-milestone-items.ensures.many))
