@@ -1,3 +1,4 @@
-pub mod Queues
-pub mod Numbers
-pub mod Pushing
+-- The crate's laws that belong to no one function.
+pub mod Places
+pub mod Tables
+pub mod Walk
