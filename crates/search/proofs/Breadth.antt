@@ -1,47 +1,49 @@
--- The search over the tables that the code has: the goal met at a place, the next place, the end.
+-- The search's loop: what holds when a place of the queue is reached, and what a turn does.
 use Prim.Native.Nat.{ℕ, zero, suc, ◌+◌, ◌-◌, ◌<◌, ◌≤◌}
 use mathlib.Core.Bool.{Bool, true, false}
 use mathlib.Core.List.{List}
-use mathlib.Core.Path.{◌≡◌, refl, ◌∙◌, ap}
+use mathlib.Core.Path.{◌≡◌, refl, ◌∙◌}
 use native.Mathlib.Omega.{arith}
 use borrow.Author.Tests.{lt-ltb, le-ltb}
-use lib.ListN.{length, get_or}
-use Rattle.roadmap.proofs.Span.{span_long, span_get}
+use lib.ListN.{length}
+use Rattle.std.specs.List.{All}
 use Rattle.queue.specs.Places.{Place, push_of}
-use Rattle.queue.specs.Queue.{place_in, queue_of}
+use Rattle.queue.proofs.Places.{push_low}
 use Rattle.search.specs.Search.{place_at, nothing, here, search_of}
+use Rattle.search.specs.Query.{Numbers}
 
-queue_long : (order from : List ℕ) (n : ℕ) → length (queue_of order from n) ≡ n
-unfolding queue_of
-queue_long order from n = span_long 0 n (place_in order from)
+module _ (goal : ℕ → Bool) (next : ℕ → List ℕ) (n : ℕ) (first : List Place) where
+  pub record Seeking (q : List Place) (p : ℕ) : Type 0 where
+    pub low : Numbers n q
+    -- the whole search is the search from here
+    pub is : search_of 256 goal next first 0 ≡ search_of (256 - p) goal next q p
 
-place_is : (order from : List ℕ) (n p : ℕ) → p < n → (place_at (queue_of order from n) p).number ≡ get_or order p 0
-unfolding queue_of place_at
-place_is order from n p h =
-    let e : 0 + p ≡ p = omega arith in
-    ap (λ (x : Place). x.number) (span_get 0 n (place_in order from) p (record { number = 0; from = 0 }) h ∙ ap (place_in order from) e)
+  pub seeking_starts : Numbers n first → Seeking first 0
+  seeking_starts low = record { low = low; is = refl }
 
-module _ (goal : ℕ → Bool) (next : ℕ → List ℕ) (order from : List ℕ) (n p : ℕ) where
-  abbrev q : List Place
-  q = queue_of order from n
+  module _ {q : List Place} {p : ℕ} (h : Seeking q p) where
+    -- the number that is taken at this place
+    module _ (few : length q ≤ 256) (more : p < length q) (u : ℕ) (taken : (place_at q p).number ≡ u) where
+      pub seeking_goal : goal u ≡ true → search_of 256 goal next first 0 ≡ here q p
+      unfolding search_of
+      seeking_goal e =
+          let k : 256 - p ≡ suc (256 - (p + 1)) = omega arith in
+          h.is ∙ rw k (rw (taken, lt-ltb p (length q) more, e))
 
-  abbrev u : ℕ
-  u = get_or order p 0
+      pub seeking_next : (new : List Place) → goal u ≡ false → All (λ (v : ℕ). v < n) (next u) → new ≡ push_of (p + 1) q (next u) → Seeking new (p + 1)
+      unfolding search_of
+      seeking_next new e low is =
+          let k : 256 - p ≡ suc (256 - (p + 1)) = omega arith in
+          rw is
+          (record {
+            low = push_low (p + 1) n q (next u) h.low low;
+            is = h.is ∙ rw k (rw (taken, lt-ltb p (length q) more, e));
+          })
 
-  module _ (few : n ≤ 256) (h : p < n) where
-    pub search_goal : goal u ≡ true → search_of (256 - p) goal next q p ≡ here q p
+    pub seeking_ends : length q ≤ p → search_of 256 goal next first 0 ≡ nothing
     unfolding search_of
-    search_goal e =
-        let k : 256 - p ≡ suc (256 - (p + 1)) = omega arith in
-        rw k (rw (queue_long order from n, place_is order from n p h, lt-ltb p n h, e))
-
-    pub search_next : goal u ≡ false → search_of (256 - p) goal next q p ≡ search_of (256 - (p + 1)) goal next (push_of (p + 1) q (next u)) (p + 1)
-    unfolding search_of
-    search_next e =
-        let k : 256 - p ≡ suc (256 - (p + 1)) = omega arith in
-        rw k (rw (queue_long order from n, place_is order from n p h, lt-ltb p n h, e))
-
-  pub search_end : (fuel : ℕ) → n ≤ p → search_of fuel goal next q p ≡ nothing
-  unfolding search_of
-  search_end zero h = refl
-  search_end (suc fuel) h = rw (queue_long order from n, le-ltb p n h)
+    seeking_ends e = h.is ∙ at_end (256 - p)
+      where
+        at_end : (fuel : ℕ) → search_of fuel goal next q p ≡ nothing
+        at_end zero = refl
+        at_end (suc fuel) = rw (le-ltb p (length q) e)

@@ -1,5 +1,6 @@
 -- Document 01, "PRM query", the route: start state, then milestones in order. "Sizes and answers": first 3 x count numbers written, rest kept.
-use Rattle.std.specs.Prelude.{ℕ, ◌+◌, ◌<◌, Bool, List, [], ◌∷◌, map, ◌≡◌, length, get_or, Float}
+use Rattle.std.specs.Prelude.{ℕ, ◌+◌, ◌<◌, Bool, Option, MatchOption, List, [], ◌∷◌, map, ◌≡◌, length, Float}
+use Rattle.std.specs.List.{All}
 use Rattle.fields.specs.Satisfied.{satisfied_of}
 use Rattle.state.specs.declared.State.{State}
 use Rattle.fields.specs.declared.Limits.{Limits}
@@ -21,9 +22,17 @@ unfoldable pub sought_of : Limits → Float → List KeepOut → Float → State
 sought_of limits segment ks radius start goal ms =
     search_of 256 (goal_of goal ms) (neighbours_of ms) (push_of 0 [] (connections_of limits segment ks radius start ms)) 0
 
--- each of the first n is a milestone's number
-abbrev pub Numbers : ℕ → List ℕ → Type 0
-Numbers n order = (p : ℕ) → p < n → get_or order p 0 < 256
+-- each place has the number of one of the first n milestones
+abbrev pub Numbers : ℕ → List Place → Type 0
+Numbers n = All (λ (p : Place). p.number < n)
+
+-- what a search found: nothing, or a place of the queue, whose milestones are among the first n
+abbrev pub Sought : Found → ℕ → List Place → Option ℕ → Type 0
+Sought found n q place = MatchOption place (found ≡ nothing) (λ p. (found ≡ here q p) × (p < length q) × Numbers n q)
+
+-- the milestones' states
+abbrev pub states_of : List Milestone → List State
+states_of = map (λ (m : Milestone). m.at)
 
 -- The queue as a tree: its root is the start, and the place p is the node p + 1, under that from which it was reached. A root's parent is
 -- 512, no node's number.

@@ -1,11 +1,7 @@
-use Prim.Native.Nat.{◌-◌, ◌≤◌}
-use Rattle.state.specs.Rows.{row_at}
-use Rattle.search.specs.Query.{Numbers}
+use Rattle.state.specs.Rows.{state_at}
 use Rattle.search.proofs.Trees.{Growing}
 use Rattle.search.proofs.write.Given as goal
 
-abbrev pub invariant-places : goal.invariant-places
-invariant-places l = (l.k ≤ l.n) × (l.n ≤ 256) × Numbers l.n l.order × Growing (row_at l.az l.el l.feed) l.order l.from l.initial.tree l.tree l.k
-
-abbrev pub decreases-places : goal.decreases-places
-decreases-places l = l.n - l.k
+-- the places before this one are in the tree
+abbrev pub invariant-loop-k : goal.invariant-loop-k
+invariant-loop-k l = Growing l.fn.start (state_at l.milestones) l.queue l.tree l.k
