@@ -1,24 +1,32 @@
-use Rattle.rrt.specs.Planner.{answered_of}
-use Rattle.rrt.specs.Solve.{solved_of, solve_of}
+use mathlib.Core.Bool.{true, false}
+use mathlib.Core.Path.{◌≡◌, sym}
+use Rattle.std.proofs.Common.{rules}
+use Rattle.rrt.specs.Planner.{planner_of, told_of}
+use Rattle.rrt.specs.Solve.{solve_of}
 use Rattle.host.specs.Call.{rrt_told, rrt_call}
-use Rattle.host.proofs.Calls.{call_unknown, call_refused, call_solved}
+use Rattle.host.proofs.Calls.{is_done, call_unknown, call_refused, call_solved}
 use Rattle.host.proofs.rindmosaic_rrt.Goals as goal
+use Rattle.host.proofs.rindmosaic_rrt.Goals.{After-setup-told}
 
-pub returns-then-refusal-eq0 : goal.returns-then-refusal-eq0
-unfolding rrt_call
-returns-then-refusal-eq0 c =
-    let is = rw c.fields_in-f.ensures at c.setup-made.ensures in
-    call_solved solve_of (rrt_told c.args.setup.now) _ _ _ _ _ _ c.table_of-table.ensures _ c.are_known.ensures c.if-are_known.true _ c.new.ensures
-    (answered_of c.setup-made.result) is _ c.number-refusal.ensures c.if-refusal-eq0.true (solved_of c.solve-solved.result _) c.solve-solved.ensures _ c.number.ensures
+-- what the setup told, of the fields that stand in the numbers
+told_is : (c : After-setup-told) → told_of c.setup-told.new.self c.setup-told.result ≡ rrt_told c.args.setup.now (planner_of c.new-rrt.result) c.table_of-table.result
+told_is c = rw c.fields_in-f.ensures at c.setup-told.ensures
 
-pub returns-then-are_known : goal.returns-then-are_known
+pub returns-then-not-are_known : goal.returns-then-not-are_known
 unfolding rrt_call
-returns-then-are_known c =
-    let is = rw c.fields_in-f.ensures at c.setup-made.ensures in
-    call_refused solve_of (rrt_told c.args.setup.now) _ _ _ _ _ _ c.table_of-table.ensures _ c.are_known.ensures c.if-are_known.true _ c.new.ensures
-    (answered_of c.setup-made.result) is _ c.number-refusal.ensures c.if-refusal-eq0.false _ c.refused.ensures
+returns-then-not-are_known c =
+    call_unknown solve_of (rrt_told c.args.setup.now) _ _ _ _ _ _ c.table_of-table.ensures _ c.are_known.ensures c.if-not-are_known.true _ c.refused.ensures
+
+pub returns-then-ne : goal.returns-then-ne
+unfolding rrt_call
+returns-then-ne c =
+    let refused : is_done c.setup-told.result ≡ false = search rules in
+    call_refused solve_of (rrt_told c.args.setup.now) _ _ _ _ _ _ c.table_of-table.ensures _ c.are_known.ensures c.if-not-are_known.false _ c.new-rrt.ensures
+    _ (told_is (goal.at.returns-then-ne c).After-setup-told) refused _ c.refused-then-ne.ensures
 
 pub returns : goal.returns
 unfolding rrt_call
 returns c =
-    call_unknown solve_of (rrt_told c.args.setup.now) _ _ _ _ _ _ c.table_of-table.ensures _ c.are_known.ensures c.if-are_known.false _ c.refused-2.ensures
+    let done : is_done c.setup-told.result ≡ true = search rules in
+    call_solved solve_of (rrt_told c.args.setup.now) _ _ _ _ _ _ c.table_of-table.ensures _ c.are_known.ensures c.if-not-are_known.false _ c.new-rrt.ensures
+    _ (told_is (goal.at.returns c).After-setup-told) done _ _ _ c.solve.ensures _ c.reported.ensures
