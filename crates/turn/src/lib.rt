@@ -45,6 +45,7 @@ fn connected(other: &mut Tree, mount: &Mount, max_distance: f64, s: State) -> En
 }
 
 // The growing tree makes one step toward a sample, and if that adds a node that is no end, the other tree one toward it.
+#[tactic(auto, unfolding(crate::specs::Turn::turn_of, crate::specs::Turn::by_verdict))]
 pub fn turn(
     growing: &mut Tree,
     other: &mut Tree,
