@@ -13,6 +13,7 @@ use tree::Tree;
 use turn::Ends;
 
 // Without a goal root the sample becomes it, untested. Else it grows the start tree when that is at most as large as the goal tree.
+#[tactic(auto, unfolding(crate::specs::Round::round_of, tree::specs::Table::nodes_of, tree::specs::Table::nodes_in, tree::specs::Table::pushed_of, tree::specs::Table::root_of), using(tree::proofs::Nodes::nodes_length))]
 pub fn round(
     start: &mut Tree,
     goal_tree: &mut Tree,
