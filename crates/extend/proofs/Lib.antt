@@ -1,2 +1,0 @@
--- The crate's laws that belong to no one function.
-pub mod Extends
