@@ -27,6 +27,7 @@ pub fn answer_of(ends: Ends) -> Answer
 }
 
 // The number of a tree's newest node.
+#[tactic(auto, using(tree::proofs::Nodes::nodes_length))]
 fn newest(tree: &Tree) -> usize
     requires { (0 < tree.now.count) × (tree.now.count ≤ 512) }
     ensures node { result ≡ newest (nodes_of tree.now) }
@@ -37,6 +38,7 @@ fn newest(tree: &Tree) -> usize
 
 // Writes the route, if there is one, and returns how many states it has: from the start tree's root to its newest node, and where the
 // trees joined from there up the goal tree to its root, the connection once.
+#[tactic(auto, unfolding(crate::specs::Ending::end_path, route::specs::Written::written_of, route::specs::Written::flat_of))]
 pub fn write(ends: Ends, start: &Tree, goal: &Tree, route: &mut [f64]) -> usize
     requires { (0 < start.now.count) × (start.now.count ≤ 512) × (0 < goal.now.count) × (goal.now.count ≤ 512) × (3069 ≤ length route.old) }
     ensures { WroteEnd ends (trees_at start.now goal.now) route.old result route.new }
