@@ -1,6 +1,6 @@
 -- Document 01, "Examples on both sides": one table. The one statement on it, that every row holds, is in proofs/Examples.antt.
 -- A new kind of example is a constructor of `Case` and a line of `holds`; a new example is a row.
-use Rattle.std.specs.Prelude.{ℕ, ◌^◌, ◌*◌, ◌-◌, Bool, true, false, ◌&&◌, List, [], ◌∷◌, ◌++◌, map, eqb, length, replicate, Float}
+use Rattle.std.specs.Prelude.{ℕ, ◌^◌, ◌*◌, ◌-◌, Bool, true, false, ◌&&◌, List, [], ◌∷◌, ◌++◌, map, eqb, length, replicate, Float, Option, Some, None}
 use Rattle.std.specs.Bool.{beq}
 use Rattle.answer.specs.Number.{number_of}
 use Rattle.answer.specs.declared.Answer.{Answer}
@@ -14,8 +14,6 @@ use Rattle.keep_out.specs.declared.KeepOut.{KeepOut}
 use Rattle.keep_out.specs.declared.KeepOut.TheVariants.{Disc}
 use Rattle.motion.specs.Points.{steps_of, Checked, too_many, points, checked_of}
 use Rattle.motion.specs.Accepts.{accepts_of}
-use Rattle.motion.specs.declared.Steps.{Steps}
-use Rattle.motion.specs.declared.Steps.TheVariants.{Count, Many}
 use Rattle.tree.specs.Table.{Nodes}
 use Rattle.plan.specs.Plan.{Plan, unset, set}
 use Rattle.plan.specs.Solve.{Outcome}
@@ -62,9 +60,9 @@ pub data Case : Type 0 where
   -- the same, with keep-outs added one by one before the query: the milestones and each one's neighbours, and the query's answer and route
   pruned : Float → List Float → List KeepOut → State → Goal → List State → List (List ℕ) → ℕ → List Float → Case
 
-unfoldable pub counts : Steps → ℕ → Bool
-counts (Count n) m = eqb n m
-counts Many m = false
+unfoldable pub counts : Option ℕ → ℕ → Bool
+counts (Some n) m = eqb n m
+counts None m = false
 
 unfoldable pub points_are : Checked → List State → Bool
 points_are too_many ss = false

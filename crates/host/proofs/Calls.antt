@@ -61,13 +61,6 @@ module _ {P A : Type 0} (solve : Planner P A → List Float → List Float → O
     unfolding call_with
     solved h o is-o = rw (e, h, ← is-o) (record { answer = refl; count = refl; taken = refl; memory = refl })
 
-    reports : is_done made.answer ≡ true → (r : Report) (new : List Float) → Reports (solve made.planner samples old) r new → Reports (call_with solve known made samples old) r new
-    unfolding call_with
-    reports h r new w = rw (e, h) w
-
-    pub call_reported : is_done made.answer ≡ true → (r : Report) (new : List Float) → Reports (solve made.planner samples old) r new → Calls r new
-    call_reported h r new w = gives _ _ (rw told (reports h r new w))
-
     pub call_solved :
         is_done made.answer ≡ true → (after : Planner P A) (s : Solved) (new : List Float) → outcome_of after s new ≡ solve made.planner samples old →
         (r : Report) → r ≡ report_of s → Calls r new

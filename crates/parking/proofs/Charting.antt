@@ -1,15 +1,15 @@
 -- What was built and its queries, from what each of them gave.
 use Prim.Native.Nat.{ℕ, suc, ◌+◌}
+use mathlib.Core.Bool.{true, false}
 use mathlib.Core.List.{List}
-use mathlib.Core.Path.{◌≡◌, refl, ◌∙◌, ap}
+use mathlib.Core.Path.{◌≡◌, ◌∙◌, ap}
 use native.Mathlib.Omega.{arith}
-use borrow.Author.Tests.{eq-eqb, ne_eqb}
 use lib.Ieee.{Float}
-use Rattle.answer.specs.Number.{number_of}
 use Rattle.prm.specs.Planner as prm
 use Rattle.prm.specs.Construct.{Construction}
 use Rattle.prm.specs.Query.{Reply, query_of}
-use Rattle.parking.specs.Chart.{queries_of, built_reply, chart_of, Charts}
+use Rattle.parking.specs.Chart.{queries_of, built_reply, charted_of, chart_of}
+use Rattle.parking.proofs.Parks.{is_done}
 
 -- one query more
 pub query_more :
@@ -21,13 +21,13 @@ query_more p i first before after h is =
     is ∙ ap (λ (r : Reply). query_of p r.route) h ∙ ap (λ (n : ℕ). queries_of p n first) e
 
 module _ (build : prm.View → List Float → Construction) (planner : prm.View) (samples old : List Float) (queries : ℕ) (built : Construction)
-    (is : built ≡ build planner samples) (n : ℕ) (is-n : n ≡ number_of built.answer) where
+    (is : built ≡ build planner samples) where
   pub chart_done :
-      n ≡ 0 → (last : Reply) → last ≡ queries_of built.planner queries (built_reply built old) →
-      Charts (chart_of build queries planner samples old) (record { answer = last.answer; count = last.count; taken = built.taken }) last.route
+      is_done built.answer ≡ true → (last : Reply) → last ≡ queries_of built.planner queries (built_reply built old) →
+      charted_of built last ≡ chart_of build queries planner samples old
   unfolding chart_of
-  chart_done z last is_last = rw (← is, ← is-n, eq-eqb n 0 z, ← is_last) (record { answer = refl; count = refl; taken = refl; memory = refl })
+  chart_done z last is_last = rw (← is, z, ← is_last)
 
-  pub chart_refused : (n ≡ 0 → ⊥) → Charts (chart_of build queries planner samples old) (record { answer = built.answer; count = 0; taken = built.taken }) old
+  pub chart_refused : is_done built.answer ≡ false → charted_of built (built_reply built old) ≡ chart_of build queries planner samples old
   unfolding chart_of
-  chart_refused h = rw (← is, ← is-n, ne_eqb n 0 h) (record { answer = refl; count = refl; taken = refl; memory = refl })
+  chart_refused h = rw (← is, h)

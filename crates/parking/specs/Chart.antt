@@ -1,5 +1,5 @@
 -- A construction with the keep-outs that are added to it, and if that is done so many queries, one after the other on the same route buffer.
-use Rattle.std.specs.Prelude.{ℕ, zero, suc, cond, List, ◌≡◌, eqb, Float}
+use Rattle.std.specs.Prelude.{ℕ, zero, suc, cond, List, eqb, Float}
 use Rattle.answer.specs.Number.{number_of}
 use Rattle.plan.specs.Solve.{Outcome}
 use Rattle.roadmap.specs.Map.{Milestone}
@@ -7,7 +7,6 @@ use Rattle.prm.specs.Planner as prm
 use Rattle.prm.specs.Planner.{Given}
 use Rattle.prm.specs.Construct.{Construction}
 use Rattle.prm.specs.Query.{Reply, query_of}
-use Rattle.parking.specs.declared.Charted.{Charted}
 
 -- the last of so many queries, each on the route that the one before left; the first reply where there is none
 unfoldable pub queries_of : prm.View → ℕ → Reply → Reply
@@ -28,10 +27,3 @@ chart_of build queries planner samples route =
     let built = build planner samples in
     let first = built_reply built route in
     charted_of built (cond (eqb (number_of built.answer) 0) (queries_of built.planner queries first) first)
-
--- what is told of it, and the route at exit; the planner goes with the call
-pub record Charts (o : Outcome Given (List Milestone)) (r : Charted) (new : List Float) : Type 0 where
-  pub answer : r.answer ≡ o.answer
-  pub count : r.count ≡ o.count
-  pub taken : r.taken ≡ o.taken
-  pub memory : new ≡ o.route

@@ -3,134 +3,105 @@
 #![tactic(auto)]
 
 ghost use Rattle.std.specs.Prelude.{◌≡◌};
-ghost use Rattle.prm.specs.Planner.{planner_of, answered_of};
+ghost use Rattle.plan.specs.Solve.{outcome_of};
+ghost use Rattle.prm.specs.Planner.{planner_of, told_of};
 ghost use Rattle.prm.specs.Construct.{constructed_of};
 ghost use Rattle.prm.specs.Query.{queried_of};
 ghost use Rattle.parking.specs.Park.{park_of, build_of};
-ghost use Rattle.parking.specs.Chart.{queries_of, chart_of, Charts};
+ghost use Rattle.parking.specs.Chart.{queries_of, chart_of};
 
 use answer::Answer;
+use construct::Built;
 use keep_out_table::KeepOuts;
-use prm::{Answered, Constructed, Prm, Queried};
-
-// How a chart ended: the route's number of states, and the samples that the construction took.
-#[derive(Clone, Copy)]
-pub struct Charted {
-    pub answer: Answer,
-    pub count: usize,
-    pub taken: usize,
-}
+use plan::Solved;
+use prm::{Prm, Queried};
 
 // Adds the keep-outs of the rows from `first` on, one by one, so many as `added` says. Stops at the first refusal. The columns have 32 rows, so a row
 // past them is the 33rd keep-out.
-fn park<'a>(
-    planner: Prm,
-    kinds: &'a [u8; 32],
-    numbers: &'a [f64; 192],
+fn park(
+    planner: &mut Prm,
+    kinds: &[u8; 32],
+    numbers: &[f64; 192],
     first: usize,
     added: usize,
-) -> Answered
-    ensures { answered_of result ≡ park_of kinds.now numbers.now (planner_of planner) added first }
+) -> Answer
+    ensures { told_of planner.new result ≡ park_of kinds.now numbers.now (planner_of planner.old) added first }
 {
-    let mut parked = planner;
-    let mut j = first;
-    let mut left = added;
-    'rows: while 0 < left {
-        if j < KeepOuts::MOST {
-            let k = columns::keep_out_at(kinds, numbers, j);
-            let told = parked.add_keep_out(k);
-            let answer = told.answer;
-            if answer.number() == 0 {
-                parked = told.planner;
-                j += 1;
-                left -= 1;
-            } else {
-                return told;
-            }
-        } else {
-            return Answered {
-                planner: parked,
-                answer: Answer::Full,
-            };
+    for k in 0..added {
+        let row = first + k;
+        if KeepOuts::MOST <= row {
+            return Answer::Full;
+        }
+        let answer = planner.add_keep_out(columns::keep_out_at(kinds, numbers, row));
+        if answer != Answer::Done {
+            return answer;
         }
     }
-    Answered {
-        planner: parked,
-        answer: Answer::Done,
-    }
+    Answer::Done
 }
 
 // Builds the roadmap, and if that is done parks on it.
-fn build<'a>(
-    planner: Prm,
-    samples: &'a [f64],
-    kinds: &'a [u8; 32],
-    numbers: &'a [f64; 192],
+fn build(
+    planner: &mut Prm,
+    samples: &[f64],
+    kinds: &[u8; 32],
+    numbers: &[f64; 192],
     first: usize,
     added: usize,
-) -> Constructed
-    ensures { constructed_of result ≡ build_of kinds.now numbers.now first added (planner_of planner) samples.now }
+) -> Built
+    ensures { constructed_of planner.new result ≡ build_of kinds.now numbers.now first added (planner_of planner.old) samples.now }
 {
     let built = planner.construct_roadmap(samples);
-    let told = built.answer;
-    if told.number() == 0 {
-        let parked = park(built.planner, kinds, numbers, first, added);
-        let left = parked.planner;
-        let answer = parked.answer;
-        return Constructed {
-            planner: left,
-            answer,
-            taken: built.taken,
-        };
+    if built.answer != Answer::Done {
+        return built;
     }
-    built
+    Built {
+        answer: park(planner, kinds, numbers, first, added),
+        taken: built.taken,
+    }
 }
 
 // So many queries, each on the route that the one before left. Answers as the last, or as the one that is given. They are counted in a byte: no page
 // bounds them, and a call is to end soon on any numbers.
-fn ask(planner: Prm, queries: u8, first: Queried, route: &mut [f64]) -> Queried
-    ensures { queried_of result route.new ≡ queries_of (planner_of planner) queries (queried_of first route.old) }
+fn ask(planner: &Prm, queries: u8, first: Queried, route: &mut [f64]) -> Queried
+    ensures { queried_of result route.new ≡ queries_of (planner_of planner.now) queries (queried_of first route.old) }
 {
     let mut last = first;
-    let mut i: u8 = 0;
-    'queries: while i < queries {
+    for _ in 0..queries {
         last = planner.query(route);
-        i += 1;
     }
     last
 }
 
 // Builds the roadmap, adds the keep-outs of the rows from `first` on, and asks if all that is done.
-pub fn chart<'a>(
-    planner: Prm,
-    samples: &'a [f64],
-    kinds: &'a [u8; 32],
-    numbers: &'a [f64; 192],
+pub fn chart(
+    planner: &mut Prm,
+    samples: &[f64],
+    kinds: &[u8; 32],
+    numbers: &[f64; 192],
     first: usize,
     added: usize,
     queries: u8,
     route: &mut [f64],
-) -> Charted
-    ensures { Charts (chart_of (build_of kinds.now numbers.now first added) queries (planner_of planner) samples.now route.old) result route.new }
+) -> Solved
+    ensures { outcome_of (planner_of planner.new) result route.new ≡ chart_of (build_of kinds.now numbers.now first added) queries (planner_of planner.old) samples.now route.old }
 {
     let built = build(planner, samples, kinds, numbers, first, added);
-    let told = built.answer;
-    if told.number() == 0 {
-        let unasked = Queried {
-            answer: told,
+    let unasked = Queried {
+        answer: built.answer,
+        count: 0,
+    };
+    if built.answer != Answer::Done {
+        return Solved {
+            answer: unasked.answer,
             count: 0,
-        };
-        let last = ask(built.planner, queries, unasked, route);
-        let answer = last.answer;
-        return Charted {
-            answer,
-            count: last.count,
             taken: built.taken,
         };
     }
-    Charted {
-        answer: told,
-        count: 0,
+    let last = ask(planner, queries, unasked, route);
+    Solved {
+        answer: last.answer,
+        count: last.count,
         taken: built.taken,
     }
 }
