@@ -21,6 +21,15 @@ pub struct Built {
     pub taken: usize,
 }
 
+impl Built {
+    // A refusal takes no sample.
+    pub fn refused(answer: Answer) -> Built
+        ensures { result ≡ record { answer = answer; taken = 0 } }
+    {
+        Built { answer, taken: 0 }
+    }
+}
+
 // Whether one state is reached from another: strictly inside the radius, by an accepted motion.
 #[tactic(auto, unfolding(crate::specs::Construct::joined_of))]
 pub fn reaches(mount: &Mount, radius: f64, from: State, to: State) -> bool

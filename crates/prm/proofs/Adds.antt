@@ -1,73 +1,61 @@
--- The answer of adding a keep-out, from its tests, the longer table and what is left of the roadmap.
-use Prim.Native.Nat.{ℕ}
-use mathlib.Core.Bool.{true, false}
-use mathlib.Core.Path.{◌≡◌, ◌∙◌, ap}
-use borrow.Author.Tests.{eq-eqb, ne_eqb}
+-- A keep-out that is not accepted changes nothing.
+use mathlib.Core.Bool.{Bool, true, false}
+use mathlib.Core.List.{List}
+use mathlib.Core.Path.{◌≡◌, refl, ◌∙◌, ap, ap₂}
+use lib.Dec.{eqb, ltb}
+use lib.ListN.{length}
+use Rattle.laws.specs.Order.{whether}
 use Rattle.answer.specs.Number.{number_of}
-use Rattle.answer.specs.declared.Answer.TheVariants.{Uninitialised}
-use Rattle.keep_out_table.specs.Table.{keep_outs_of}
+use Rattle.answer.specs.declared.Answer.{Answer}
+use Rattle.answer.specs.declared.Answer.TheVariants.{Done, Uninitialised, BadInput, SamplesEnded, Full, Unsampled, InvalidStart, NoSolution, Room}
+use Rattle.keep_out.specs.Good.{good_keep_out}
 use Rattle.keep_out.specs.declared.KeepOut.{KeepOut}
-use Rattle.plan.specs.Plan.{Plan, plan_of, plan_under, set}
-use Rattle.plan.specs.KeepOut.{Longer, longer_of, Added, more_of, longer_setting}
-use Rattle.plan.specs.declared.More.{More}
+use Rattle.keep_out_table.specs.Table.{keep_outs_of}
+use Rattle.plan.specs.Plan.{Plan, plan_of, plan_under, view_of}
+use Rattle.plan.specs.KeepOut.{longer_of, Added, more_of, longer_setting}
+use Rattle.plan.specs.declared.Setting.{Setting}
 use Rattle.roadmap.specs.View.{milestones_of}
-use Rattle.roadmap.specs.declared.Roadmap.{Roadmap}
-use Rattle.prune.specs.Prune.{pruned_of}
 use Rattle.prm.specs.declared.Prm.{Prm}
-use Rattle.prm.specs.Planner.{Given, View, given_by, planner_of}
-use Rattle.prm.specs.Adding.{given_under, add_of}
-use Rattle.prm.proofs.Views.{view_set, view_unset}
+use Rattle.prm.specs.Planner.{View, given_by, planner_of, told_of}
+use Rattle.prm.specs.Adding.{add_of}
 
-module _ (p : Prm) (k : KeepOut) where
-  pub add_unset : p.setting.ready ≡ false → record { planner = planner_of p; answer = Uninitialised } ≡ add_of (planner_of p) k
-  unfolding add_of
-  add_unset u = rw (view_unset p u)
+kept : (ks : List KeepOut) (k : KeepOut) → ((longer_of ks k).answer ≡ Done → ⊥) → (longer_of ks k).keep_outs ≡ ks
+unfolding longer_of
+kept ks k h =
+    whether (good_keep_out k) (λ g. whether (ltb (length ks) 32) (λ l. absurd (h (rw (g, l)))) (λ l. rw (g, l))) (λ g. rw g)
 
-  module _ (u : p.setting.ready ≡ true) (m : More) (is : more_of m ≡ longer_setting p.setting k) (n : ℕ) (number : n ≡ number_of m.answer) where
-    abbrev longer : Longer
-    longer = longer_of (keep_outs_of p.setting.mount.table) k
+-- no other answer has the number of Done
+number : (a : Answer) → (a ≡ Done → ⊥) → eqb (number_of a) 0 ≡ false
+number Done h = absurd (h refl)
+number Uninitialised h = refl
+number BadInput h = refl
+number SamplesEnded h = refl
+number Full h = refl
+number Unsampled h = refl
+number InvalidStart h = refl
+number NoSolution h = refl
+number Room h = refl
 
-    abbrev given : Given
-    given = given_by (plan_of p.setting) p.start
+module _ (p : Prm) (k : KeepOut) (ready : p.setting.ready ≡ true) (new : Setting) (answer : Answer) (is : more_of new answer ≡ longer_setting p.setting k) (not_done : answer ≡ Done → ⊥) where
+  answered : answer ≡ (longer_of (keep_outs_of p.setting.mount.table) k).answer
+  unfolding longer_setting
+  answered = ap (λ (x : Added). x.answer) is
 
-    ready : m.setting.ready ≡ p.setting.ready
-    unfolding longer_setting
-    ready = ap (λ (x : Added). x.ready) is
+  same : plan_of new ≡ plan_of p.setting
+  unfolding longer_setting
+  same = ap (λ (x : Added). x.plan) is ∙ ap (plan_under (plan_of p.setting)) (kept (keep_outs_of p.setting.mount.table) k (λ e. not_done (answered ∙ e)))
 
-    plan : plan_of m.setting ≡ plan_under (plan_of p.setting) longer.keep_outs
-    unfolding longer_setting
-    plan = ap (λ (x : Added). x.plan) is
+  still : new.ready ≡ p.setting.ready
+  unfolding longer_setting
+  still = ap (λ (x : Added). x.ready) is
 
-    answer : m.answer ≡ longer.answer
-    unfolding longer_setting
-    answer = ap (λ (x : Added). x.answer) is
+  view : planner_of (record { setting = new; start = p.start; map = p.map }) ≡ planner_of p
+  unfolding planner_of
+  view = ap₂ (λ (r : Bool) (q : Plan). view_of r (given_by q p.start) (milestones_of p.map)) still same
 
-    refused : (n ≡ 0 → ⊥) → record { planner = set given (milestones_of p.map); answer = m.answer } ≡ add_of (planner_of p) k
-    unfolding add_of
-    refused z = rw (view_set p u, ← answer, ← number, ne_eqb n 0 z)
+  refused : told_of p answer ≡ add_of (planner_of p) k
+  unfolding planner_of add_of view_of
+  refused = rw (ready, ← answered, number answer not_done)
 
-    pub add_refused : (n ≡ 0 → ⊥) → record { planner = planner_of p; answer = m.answer } ≡ add_of (planner_of p) k
-    add_refused z = ap (λ (v : View). record { planner = v; answer = m.answer }) (view_set p u) ∙ refused z
-
-    -- the planner with the longer table and what is left
-    abbrev with : Roadmap → Prm
-    with map = record { setting = m.setting; start = p.start; map = map }
-
-    done :
-        n ≡ 0 →
-        record { planner = set (given_under given longer.keep_outs) (pruned_of p.setting.mount.segment.value k (milestones_of p.map)); answer = m.answer } ≡ add_of (planner_of p) k
-    unfolding add_of
-    done z = rw (view_set p u, ← answer, ← number, eq-eqb n 0 z)
-
-    pub add_done :
-        n ≡ 0 → (left : Roadmap) → milestones_of left ≡ pruned_of p.setting.mount.segment.value k (milestones_of p.map) →
-        record { planner = planner_of (with left); answer = m.answer } ≡ add_of (planner_of p) k
-    add_done z left e = ap (λ (v : View). record { planner = v; answer = m.answer }) (made ∙ left_so) ∙ done z
-      where
-        made : planner_of (with left) ≡ set (given_by (plan_of m.setting) p.start) (milestones_of left)
-        made = view_set (with left) (ready ∙ u)
-
-        left_so :
-            set (given_by (plan_of m.setting) p.start) (milestones_of left)
-            ≡ set (given_under given longer.keep_outs) (pruned_of p.setting.mount.segment.value k (milestones_of p.map))
-        left_so = ap (λ (q : Plan). set (given_by q p.start) (milestones_of left)) plan ∙ ap (set (given_under given longer.keep_outs)) e
+  pub add_refused : told_of (record { setting = new; start = p.start; map = p.map }) answer ≡ add_of (planner_of p) k
+  add_refused = ap (λ (v : View). record { planner = v; answer = answer }) view ∙ refused

@@ -5,8 +5,9 @@ use Rattle.answer.specs.declared.Answer.TheVariants.{Uninitialised, BadInput}
 use Rattle.samples.specs.Samples.{good_samples, samples_of}
 use Rattle.plan.specs.Plan.{unset, set}
 use Rattle.construct.specs.Construct as roadmap
+use Rattle.construct.specs.declared.Built.{Built}
 use Rattle.prm.specs.Planner.{View, planner_of}
-use Rattle.prm.specs.declared.Constructed.{Constructed}
+use Rattle.prm.specs.declared.Prm.{Prm}
 
 -- all that a construction gives
 pub record Construction : Type 0 where
@@ -14,8 +15,9 @@ pub record Construction : Type 0 where
   pub answer : Answer
   pub taken : ℕ
 
-abbrev pub constructed_of : Constructed → Construction
-constructed_of r = record { planner = planner_of r.planner; answer = r.answer; taken = r.taken }
+-- a planner after a construction, and what that answered
+abbrev pub constructed_of : Prm → Built → Construction
+constructed_of p built = record { planner = planner_of p; answer = built.answer; taken = built.taken }
 
 unfoldable pub construct_of : View → List Float → Construction
 construct_of unset samples = record { planner = unset; answer = Uninitialised; taken = 0 }

@@ -1,5 +1,6 @@
 -- What a PRM planner is to its caller, document 01's setup with its fields in order, and the replacing of start and goal.
-use Rattle.std.specs.Prelude.{ℕ, Bool, false, ◌&&◌, cond, List, [], length, Float}
+use Rattle.std.specs.Prelude.{ℕ, Bool, false, ◌&&◌, cond, Option, None, List, [], length, Float}
+use Rattle.answer.specs.declared.Answer.{Answer}
 use Rattle.answer.specs.declared.Answer.TheVariants.{Done, Uninitialised, BadInput}
 use Rattle.state.specs.Ranges.{good_state}
 use Rattle.fields.specs.Ranges.{good_goal}
@@ -14,10 +15,7 @@ use Rattle.plan.specs.Setup.{Told, setting_of, setup_with}
 use Rattle.roadmap.specs.Map as map
 use Rattle.roadmap.specs.Map.{Milestone}
 use Rattle.roadmap.specs.View.{milestones_of}
-use Rattle.roadmap.specs.declared.MilestoneAt.{MilestoneAt}
-use Rattle.roadmap.specs.declared.MilestoneAt.TheVariants.{Nothing}
 use Rattle.prm.specs.declared.Prm.{Prm}
-use Rattle.prm.specs.declared.Answered.{Answered}
 
 -- what a setup gave, with start and goal as last replaced
 pub record Given : Type 0 where
@@ -42,8 +40,9 @@ planner_of p = view_of p.setting.ready (given_by (plan_of p.setting) p.start) (m
 abbrev pub new_of : View
 new_of = unset
 
-abbrev pub answered_of : Answered → Told Given (List Milestone)
-answered_of r = record { planner = planner_of r.planner; answer = r.answer }
+-- a planner after a call, and what the call answered
+abbrev pub told_of : Prm → Answer → Told Given (List Milestone)
+told_of p answer = record { planner = planner_of p; answer = answer }
 
 -- setup empties the roadmap
 unfoldable pub setup_of : View → Limits → Length → Length → State → Goal → KeepOuts → Told Given (List Milestone)
@@ -68,8 +67,8 @@ unfoldable pub size_of : View → ℕ
 size_of unset = 0
 size_of (set given ms) = length ms
 
-unfoldable pub milestone_of : View → ℕ → MilestoneAt
-milestone_of unset i = Nothing
+unfoldable pub milestone_of : View → ℕ → Option State
+milestone_of unset i = None
 milestone_of (set given ms) i = map.milestone_of ms i
 
 unfoldable pub leg_of : View → ℕ → ℕ → Bool

@@ -2,17 +2,18 @@
 #![tactic(auto)]
 
 ghost use Rattle.std.specs.Prelude.{◌≡◌};
-ghost use Rattle.prm.specs.Planner.{planner_of, new_of, setup_of, answered_of, goals_of, size_of, milestone_of, leg_of};
+ghost use Rattle.prm.specs.Planner.{planner_of, new_of, told_of, setup_of, goals_of, size_of, milestone_of, leg_of};
 ghost use Rattle.prm.specs.Construct.{constructed_of, construct_of};
 ghost use Rattle.prm.specs.Adding.{add_of};
 ghost use Rattle.prm.specs.Query.{queried_of, query_of};
 
 use answer::Answer;
+use construct::Built;
 use fields::{Goal, Length, Limits};
 use keep_out::KeepOut;
 use keep_out_table::KeepOuts;
 use plan::Setting;
-use roadmap::{MilestoneAt, Roadmap};
+use roadmap::Roadmap;
 use state::State;
 
 // What an accepted setup gave, with start and goal as last replaced, and the roadmap that has been built since.
@@ -23,20 +24,6 @@ pub struct Prm {
     map: Roadmap,
 }
 
-#[derive(Clone, Copy)]
-pub struct Answered {
-    pub planner: Prm,
-    pub answer: Answer,
-}
-
-#[derive(Clone, Copy)]
-pub struct Constructed {
-    pub planner: Prm,
-    pub answer: Answer,
-    // The samples taken.
-    pub taken: usize,
-}
-
 // How a query ended.
 #[derive(Clone, Copy)]
 pub struct Queried {
@@ -45,12 +32,17 @@ pub struct Queried {
     pub count: usize,
 }
 
-fn refused(answer: Answer) -> Queried
-    ensures { result ≡ record { answer = answer; count = 0 } }
-{
-    Queried { answer, count: 0 }
+impl Queried {
+    // A refusal writes no route.
+    pub fn refused(answer: Answer) -> Queried
+        ensures { result ≡ record { answer = answer; count = 0 } }
+    {
+        Queried { answer, count: 0 }
+    }
 }
 
+// The generated proofs open these definitions.
+#[tactic(auto, using(roadmap::proofs::View::empty_is), unfolding(crate::specs::Planner::planner_of, crate::specs::Planner::setup_of, crate::specs::Planner::goals_of, crate::specs::Planner::size_of, crate::specs::Planner::milestone_of, crate::specs::Planner::leg_of, crate::specs::Construct::construct_of, crate::specs::Adding::add_of, crate::specs::Query::query_of, crate::specs::Query::found_of, plan::specs::Plan::view_of, plan::specs::Setup::setup_with, plan::specs::KeepOut::longer_setting))]
 impl Prm {
     // The length that the route buffer of a query needs.
     pub const ROUTE: usize = 771;
@@ -73,193 +65,129 @@ impl Prm {
 
     // A refused setup keeps the planner as it was.
     pub fn setup(
-        self,
+        &mut self,
         limits: Limits,
         segment: Length,
         connection_radius: Length,
         start: State,
         goal: Goal,
         table: KeepOuts,
-    ) -> Answered
-        ensures { answered_of result ≡ setup_of (planner_of self) limits segment connection_radius start goal table }
+    ) -> Answer
+        ensures { told_of self.new result ≡ setup_of (planner_of self.old) limits segment connection_radius start goal table }
     {
         let setting = Setting::new(limits, segment, connection_radius, start, goal, table);
-        if setting.ready {
-            let planner = Prm {
-                setting,
-                start,
-                map: Roadmap::empty(),
-            };
-            return Answered {
-                planner,
-                answer: Answer::Done,
-            };
+        if !setting.ready {
+            return Answer::BadInput;
         }
-        let kept = self;
-        Answered {
-            planner: kept,
-            answer: Answer::BadInput,
-        }
+        *self = Prm {
+            setting,
+            start,
+            map: Roadmap::empty(),
+        };
+        Answer::Done
     }
 
     // Builds the roadmap, if it is empty.
-    pub fn construct_roadmap(self, samples: &[f64]) -> Constructed
-        ensures { constructed_of result ≡ construct_of (planner_of self) samples.now }
+    pub fn construct_roadmap(&mut self, samples: &[f64]) -> Built
+        ensures { constructed_of self.new result ≡ construct_of (planner_of self.old) samples.now }
     {
-        let setting = self.setting;
-        let map = self.map;
-        let good = samples::are_good(samples);
-        if setting.ready {
-            if good {
-                let radius = setting.reach.value;
-                let built = construct::construct(setting.mount, radius, map, samples);
-                let grown = built.map;
-                let answer = built.answer;
-                let mut planner = self;
-                planner.map = grown;
-                return Constructed {
-                    planner,
-                    answer,
-                    taken: built.taken,
-                };
-            }
-            return Constructed {
-                planner: self,
-                answer: Answer::BadInput,
-                taken: 0,
-            };
+        if !self.setting.ready {
+            return Built::refused(Answer::Uninitialised);
         }
-        Constructed {
-            planner: self,
-            answer: Answer::Uninitialised,
-            taken: 0,
+        if !samples::are_good(samples) {
+            return Built::refused(Answer::BadInput);
         }
+        let setting = &self.setting;
+        construct::construct(&mut self.map, &setting.mount, setting.reach.value, samples)
     }
 
     // Replaces start and goal; the roadmap stays.
-    pub fn replace_goals(self, start: State, goal: Goal) -> Answered
-        ensures { answered_of result ≡ goals_of (planner_of self) start goal }
+    pub fn replace_goals(&mut self, start: State, goal: Goal) -> Answer
+        ensures { told_of self.new result ≡ goals_of (planner_of self.old) start goal }
     {
-        let mut setting = self.setting;
-        if setting.ready {
-            if start.is_good() {
-                if goal.is_good() {
-                    setting.goal = goal;
-                    let mut planner = self;
-                    planner.start = start;
-                    planner.setting = setting;
-                    return Answered {
-                        planner,
-                        answer: Answer::Done,
-                    };
-                }
-            }
-            return Answered {
-                planner: self,
-                answer: Answer::BadInput,
-            };
+        if !self.setting.ready {
+            return Answer::Uninitialised;
         }
-        Answered {
-            planner: self,
-            answer: Answer::Uninitialised,
+        if !start.is_good() || !goal.is_good() {
+            return Answer::BadInput;
         }
+        self.start = start;
+        self.setting.goal = goal;
+        Answer::Done
     }
 
     // The route from the start to a milestone that satisfies the goal; the planner stays as it is.
-    pub fn query(self, route: &mut [f64]) -> Queried
-        ensures { queried_of result route.new ≡ query_of (planner_of self) route.old }
+    pub fn query(&self, route: &mut [f64]) -> Queried
+        ensures { queried_of result route.new ≡ query_of (planner_of self.now) route.old }
     {
-        let setting = self.setting;
-        let map = self.map;
-        let start = self.start;
-        let size = map.size();
-        if setting.ready {
-            if route.len() < Prm::ROUTE {
-                return refused(Answer::Room);
-            }
-            if size == 0 {
-                return refused(Answer::Unsampled);
-            }
-            if setting.mount.is_valid(start) {
-                let radius = setting.reach.value;
-                let count = search::find_route(
-                    setting.mount,
-                    radius,
-                    start,
-                    setting.goal,
-                    map,
-                    route,
-                );
-                if count == 0 {
-                    return refused(Answer::NoSolution);
-                }
-                return Queried {
-                    answer: Answer::Done,
-                    count,
-                };
-            }
-            return refused(Answer::InvalidStart);
+        let setting = &self.setting;
+        if !setting.ready {
+            return Queried::refused(Answer::Uninitialised);
         }
-        refused(Answer::Uninitialised)
+        if route.len() < Prm::ROUTE {
+            return Queried::refused(Answer::Room);
+        }
+        if self.map.size() == 0 {
+            return Queried::refused(Answer::Unsampled);
+        }
+        if !setting.mount.is_valid(self.start) {
+            return Queried::refused(Answer::InvalidStart);
+        }
+        let radius = setting.reach.value;
+        let count = search::find_route(
+            &setting.mount,
+            radius,
+            self.start,
+            setting.goal,
+            &self.map,
+            route,
+        );
+        if count == 0 {
+            return Queried::refused(Answer::NoSolution);
+        }
+        Queried {
+            answer: Answer::Done,
+            count,
+        }
     }
 
     // Adds a keep-out. What it covers goes: milestones, and legs by their checked points.
-    pub fn add_keep_out(self, k: KeepOut) -> Answered
-        ensures { answered_of result ≡ add_of (planner_of self) k }
+    pub fn add_keep_out(&mut self, k: KeepOut) -> Answer
+        ensures { told_of self.new result ≡ add_of (planner_of self.old) k }
     {
-        let setting = self.setting;
-        let map = self.map;
-        if setting.ready {
-            let more = setting.with_keep_out(k);
-            let longer = more.setting;
-            let answer = more.answer;
-            if answer.number() == 0 {
-                let left = prune::pruned(map, k, setting.mount.segment.value);
-                let mut planner = self;
-                planner.setting = longer;
-                planner.map = left;
-                return Answered { planner, answer };
-            }
-            return Answered {
-                planner: self,
-                answer,
-            };
+        if !self.setting.ready {
+            return Answer::Uninitialised;
         }
-        Answered {
-            planner: self,
-            answer: Answer::Uninitialised,
+        let answer = self.setting.add_keep_out(k);
+        if answer == Answer::Done {
+            self.map = prune::pruned(&self.map, k, self.setting.mount.segment.value);
         }
+        answer
     }
 
     // How many milestones there are; none before an accepted setup.
-    pub fn size(self) -> usize
-        ensures { result ≡ size_of (planner_of self) }
+    pub fn size(&self) -> usize
+        ensures { result ≡ size_of (planner_of self.now) }
     {
-        let map = self.map;
-        if self.setting.ready {
-            return map.size();
+        if !self.setting.ready {
+            return 0;
         }
-        0
+        self.map.size()
     }
 
-    pub fn milestone(self, i: usize) -> MilestoneAt
-        ensures { result ≡ milestone_of (planner_of self) i }
+    pub fn milestone(&self, i: usize) -> Option<State>
+        ensures { result ≡ milestone_of (planner_of self.now) i }
     {
-        let map = self.map;
-        if self.setting.ready {
-            return map.milestone(i);
+        if !self.setting.ready {
+            return None;
         }
-        MilestoneAt::Nothing
+        self.map.milestone(i)
     }
 
     // Whether a leg joins the milestones i and j.
-    pub fn has_leg(self, i: usize, j: usize) -> bool
-        ensures { result ≡ leg_of (planner_of self) i j }
+    pub fn has_leg(&self, i: usize, j: usize) -> bool
+        ensures { result ≡ leg_of (planner_of self.now) i j }
     {
-        let map = self.map;
-        if self.setting.ready {
-            return map.has_leg(i, j);
-        }
-        false
+        self.setting.ready && self.map.has_leg(i, j)
     }
 }
