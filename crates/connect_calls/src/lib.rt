@@ -39,7 +39,12 @@ fn solve(out: &mut Out, planner: &mut RrtConnect, line: &Line<'_>)
 }
 
 fn tables(out: &mut Out, planner: &RrtConnect) {
-    nodes::table(out, b"start", planner.start_size(), |i| planner.start_node(i));
+    nodes::table(
+        out,
+        b"start",
+        planner.start_size(),
+        |i| planner.start_node(i),
+    );
     nodes::table(out, b"goal", planner.goal_size(), |i| planner.goal_node(i));
 }
 

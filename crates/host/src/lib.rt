@@ -109,9 +109,7 @@ pub fn rindmosaic_star(
         return refused(Answer::BadInput);
     }
     let mut star = RrtStar::new();
-    let told = star.setup(
-        f.limits, f.segment, f.reach, radius, f.start, f.goal, table,
-    );
+    let told = star.setup(f.limits, f.segment, f.reach, radius, f.start, f.goal, table);
     if told != Answer::Done {
         return refused(told);
     }
@@ -144,13 +142,6 @@ pub fn rindmosaic_prm(
         return refused(told);
     }
     reported(parking::chart(
-        &mut prm,
-        samples,
-        kinds,
-        numbers,
-        keep_outs,
-        added,
-        queries,
-        route,
+        &mut prm, samples, kinds, numbers, keep_outs, added, queries, route,
     ))
 }

@@ -7,12 +7,12 @@ ghost use Rattle.host.specs.Call.{Called, rrt_call, connect_call, star_call, prm
 use host::Report;
 
 #[unsafe(no_mangle)]
-pub extern "C" fn rindmosaic_rrt<'a>(
-    setup: &'a [f64; 15],
-    kinds: &'a [u8; 32],
-    numbers: &'a [f64; 192],
+pub extern "C" fn rindmosaic_rrt(
+    setup: &[f64; 15],
+    kinds: &[u8; 32],
+    numbers: &[f64; 192],
     keep_outs: usize,
-    samples: &'a [f64],
+    samples: &[f64],
     route: &mut [f64],
 ) -> Report
     ensures { Called (rrt_call setup.now kinds.now keep_outs samples.now route.old) kinds.now numbers.now keep_outs result route.new }
@@ -21,12 +21,12 @@ pub extern "C" fn rindmosaic_rrt<'a>(
 }
 
 #[unsafe(no_mangle)]
-pub extern "C" fn rindmosaic_connect<'a>(
-    setup: &'a [f64; 15],
-    kinds: &'a [u8; 32],
-    numbers: &'a [f64; 192],
+pub extern "C" fn rindmosaic_connect(
+    setup: &[f64; 15],
+    kinds: &[u8; 32],
+    numbers: &[f64; 192],
     keep_outs: usize,
-    samples: &'a [f64],
+    samples: &[f64],
     route: &mut [f64],
 ) -> Report
     ensures { Called (connect_call setup.now kinds.now keep_outs samples.now route.old) kinds.now numbers.now keep_outs result route.new }
@@ -35,13 +35,13 @@ pub extern "C" fn rindmosaic_connect<'a>(
 }
 
 #[unsafe(no_mangle)]
-pub extern "C" fn rindmosaic_star<'a>(
-    setup: &'a [f64; 15],
+pub extern "C" fn rindmosaic_star(
+    setup: &[f64; 15],
     search_radius: f64,
-    kinds: &'a [u8; 32],
-    numbers: &'a [f64; 192],
+    kinds: &[u8; 32],
+    numbers: &[f64; 192],
     keep_outs: usize,
-    samples: &'a [f64],
+    samples: &[f64],
     route: &mut [f64],
 ) -> Report
     ensures { Called (star_call setup.now search_radius kinds.now keep_outs samples.now route.old) kinds.now numbers.now keep_outs result route.new }
@@ -58,13 +58,13 @@ pub extern "C" fn rindmosaic_star<'a>(
 }
 
 #[unsafe(no_mangle)]
-pub extern "C" fn rindmosaic_prm<'a>(
-    setup: &'a [f64; 15],
-    kinds: &'a [u8; 32],
-    numbers: &'a [f64; 192],
+pub extern "C" fn rindmosaic_prm(
+    setup: &[f64; 15],
+    kinds: &[u8; 32],
+    numbers: &[f64; 192],
     keep_outs: usize,
     added: usize,
-    samples: &'a [f64],
+    samples: &[f64],
     queries: u8,
     route: &mut [f64],
 ) -> Report

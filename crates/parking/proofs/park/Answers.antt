@@ -1,10 +1,8 @@
 use Prim.Native.Nat.{◌+◌, ◌-◌}
 use mathlib.Core.Bool.{true, false}
-use mathlib.Core.Path.{◌≡◌, refl}
+use mathlib.Core.Path.{◌≡◌}
 use native.Mathlib.Omega.{arith}
 use Rattle.std.proofs.Common.{rules}
-use Rattle.prm.specs.Planner.{planner_of}
-use Rattle.parking.specs.Park.{park_of}
 use Rattle.parking.proofs.Parks.{is_done, park_ended, park_full, park_on, park_stopped}
 use Rattle.parking.proofs.park.Goals as goal
 
