@@ -87,18 +87,12 @@ pub fn chart(
     ensures { outcome_of (planner_of planner.new) result route.new ≡ chart_of (build_of kinds.now numbers.now first added) queries (planner_of planner.old) samples.now route.old }
 {
     let built = build(planner, samples, kinds, numbers, first, added);
-    let unasked = Queried {
-        answer: built.answer,
-        count: 0,
+    let unasked = Queried::refused(built.answer);
+    let last = if built.answer == Answer::Done {
+        ask(planner, queries, unasked, route)
+    } else {
+        unasked
     };
-    if built.answer != Answer::Done {
-        return Solved {
-            answer: unasked.answer,
-            count: 0,
-            taken: built.taken,
-        };
-    }
-    let last = ask(planner, queries, unasked, route);
     Solved {
         answer: last.answer,
         count: last.count,

@@ -1,13 +1,12 @@
 -- A keep-out that is not accepted changes nothing.
 use mathlib.Core.Bool.{Bool, true, false}
 use mathlib.Core.List.{List}
-use mathlib.Core.Path.{◌≡◌, refl, ◌∙◌, ap, ap₂}
+use mathlib.Core.Path.{◌≡◌, ◌∙◌, ap, ap₂}
 use lib.Dec.{eqb, ltb}
 use lib.ListN.{length}
 use Rattle.laws.specs.Order.{whether}
 use Rattle.answer.specs.Number.{number_of}
 use Rattle.answer.specs.declared.Answer.{Answer}
-use Rattle.answer.specs.declared.Answer.TheVariants.{Done, Uninitialised, BadInput, SamplesEnded, Full, Unsampled, InvalidStart, NoSolution, Room}
 use Rattle.keep_out.specs.Good.{good_keep_out}
 use Rattle.keep_out.specs.declared.KeepOut.{KeepOut}
 use Rattle.keep_out_table.specs.Table.{keep_outs_of}
@@ -19,31 +18,21 @@ use Rattle.prm.specs.declared.Prm.{Prm}
 use Rattle.prm.specs.Planner.{View, given_by, planner_of, told_of}
 use Rattle.prm.specs.Adding.{add_of}
 
-kept : (ks : List KeepOut) (k : KeepOut) → ((longer_of ks k).answer ≡ Done → ⊥) → (longer_of ks k).keep_outs ≡ ks
+kept : (ks : List KeepOut) (k : KeepOut) → eqb (number_of (longer_of ks k).answer) 0 ≡ false → (longer_of ks k).keep_outs ≡ ks
 unfolding longer_of
 kept ks k h =
-    whether (good_keep_out k) (λ g. whether (ltb (length ks) 32) (λ l. absurd (h (rw (g, l)))) (λ l. rw (g, l))) (λ g. rw g)
+    whether (good_keep_out k)
+    (λ g. whether (ltb (length ks) 32) (λ l. let z : true ≡ false = rw (g, l) at h in cc) (λ l. rw (g, l)))
+    (λ g. rw g)
 
--- no other answer has the number of Done
-number : (a : Answer) → (a ≡ Done → ⊥) → eqb (number_of a) 0 ≡ false
-number Done h = absurd (h refl)
-number Uninitialised h = refl
-number BadInput h = refl
-number SamplesEnded h = refl
-number Full h = refl
-number Unsampled h = refl
-number InvalidStart h = refl
-number NoSolution h = refl
-number Room h = refl
-
-module _ (p : Prm) (k : KeepOut) (ready : p.setting.ready ≡ true) (new : Setting) (answer : Answer) (is : more_of new answer ≡ longer_setting p.setting k) (not_done : answer ≡ Done → ⊥) where
+module _ (p : Prm) (k : KeepOut) (ready : p.setting.ready ≡ true) (new : Setting) (answer : Answer) (is : more_of new answer ≡ longer_setting p.setting k) (refusal : eqb (number_of answer) 0 ≡ false) where
   answered : answer ≡ (longer_of (keep_outs_of p.setting.mount.table) k).answer
   unfolding longer_setting
   answered = ap (λ (x : Added). x.answer) is
 
   same : plan_of new ≡ plan_of p.setting
   unfolding longer_setting
-  same = ap (λ (x : Added). x.plan) is ∙ ap (plan_under (plan_of p.setting)) (kept (keep_outs_of p.setting.mount.table) k (λ e. not_done (answered ∙ e)))
+  same = ap (λ (x : Added). x.plan) is ∙ ap (plan_under (plan_of p.setting)) (kept (keep_outs_of p.setting.mount.table) k (rw answered at refusal))
 
   still : new.ready ≡ p.setting.ready
   unfolding longer_setting
@@ -55,7 +44,7 @@ module _ (p : Prm) (k : KeepOut) (ready : p.setting.ready ≡ true) (new : Setti
 
   refused : told_of p answer ≡ add_of (planner_of p) k
   unfolding planner_of add_of view_of
-  refused = rw (ready, ← answered, number answer not_done)
+  refused = rw (ready, ← answered, refusal)
 
   pub add_refused : told_of (record { setting = new; start = p.start; map = p.map }) answer ≡ add_of (planner_of p) k
   add_refused = ap (λ (v : View). record { planner = v; answer = answer }) view ∙ refused
