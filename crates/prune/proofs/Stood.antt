@@ -2,7 +2,7 @@
 use Prim.Native.Nat.{ℕ, ◌+◌, ◌<◌, ◌≤◌}
 use mathlib.Core.Bool.{Bool, true, false, not, ◌&&◌, ◌||◌, or-false, and-false, and_comm, and-or_distrib_left}
 use mathlib.Core.List.{List}
-use mathlib.Core.Path.{◌≡◌, refl, sym, ◌∙◌, ap}
+use mathlib.Core.Path.{◌≡◌, sym, ◌∙◌, ap}
 use native.Mathlib.Omega.{arith}
 use native.Mathlib.Decide.{ℕ_discrete, dec_lt}
 use borrow.Author.Tests.{eq-eqb, ne_eqb, lt-ltb, le-ltb}
@@ -12,7 +12,7 @@ use Rattle.std.specs.Prelude.{Option, Some, None}
 use Rattle.legs.specs.Bits.{leg_at, Linked}
 use Rattle.legs.specs.Next.{Clear, First}
 use Rattle.roadmap.specs.View.{Joins}
-use Rattle.roadmap.proofs.Joins.{regroup, nothing}
+use Rattle.roadmap.proofs.Joins.{regroup}
 use Rattle.roadmap.specs.declared.Roadmap.{Roadmap}
 use Rattle.state.specs.Rows.{state_at}
 use Rattle.keep_out.specs.declared.KeepOut.{KeepOut}
@@ -41,13 +41,6 @@ module _ (old : List ℕ) (n : ℕ) (g : ℕ → Bool) where
             ∙ regroup (leg_at old a b) (eqb a n && (ltb b n && g b)) (eqb b n && (ltb a n && g a)) (eqb a n && eqb b x) (eqb b n && eqb a x)
             ∙ sym (rw (more_below g' x l e b, more_below g' x l e a, and-or_distrib_left (eqb a n) (ltb b n && g b) (eqb b x), and-or_distrib_left (eqb b n) (ltb a n && g a) (eqb a x)));
       }
-
-  -- no flag
-  pub joins_unset : ((j : ℕ) → j < n → g j ≡ false) → Joins old n n g old
-  joins_unset e = record { long = refl; is = λ a b ha hb. rw (unset b, unset a) (nothing (leg_at old a b) (eqb a n) (eqb b n)) }
-    where
-      unset : (b : ℕ) → ltb b n && g b ≡ false
-      unset b = elim (dec_lt b n) [ yes h ↦ rw (e b h) (and-false (ltb b n)) | no h ↦ rw (le-ltb b n (omega arith)) ]
 
 module _ (map : Roadmap) (segment : Float) (k : KeepOut) (i : ℕ) where
   -- the former number of the j-th that stays
