@@ -55,6 +55,7 @@ fn keep_legs(
 {
     let new = map.milestones[i];
     let mut from = 0;
+    // No iterator walks the legs of a row: each is asked for from the one before it.
     'stood: while let Some(o) = legs::next(&map.legs, i, from, i) {
         if let Some(j) = at[o] {
             if !hits(k, segment, new, map.milestones[o]) {
