@@ -1,7 +1,7 @@
 -- What a call of a script leaves of its planner, by its verb. Each planner's calls say what its setup, its solve and the others leave.
 use Rattle.std.specs.Prelude.{Bool, true, false}
 use Rattle.grammar.specs.declared.Verb.{Verb}
-use Rattle.grammar.specs.declared.Verb.TheVariants.{Setup, Keepout, Solve, Construct, Goals, Query, Tables, Distance, Between, Steer, Valid, Steps, Motion}
+use Rattle.grammar.specs.declared.Verb.TheVariants.{Setup, Keepout, Solve, Construct, Goals, Query, Tables}
 
 -- whether the call was made, and the planner after it
 pub record Left (A : Type 0) : Type 0 where
@@ -21,15 +21,7 @@ tree_call before setup keepout solved Setup = leaves setup
 tree_call before setup keepout solved Keepout = leaves keepout
 tree_call before setup keepout solved Solve = leaves solved
 tree_call before setup keepout solved Tables = leaves before
-tree_call before setup keepout solved Construct = no_call before
-tree_call before setup keepout solved Goals = no_call before
-tree_call before setup keepout solved Query = no_call before
-tree_call before setup keepout solved Distance = no_call before
-tree_call before setup keepout solved Between = no_call before
-tree_call before setup keepout solved Steer = no_call before
-tree_call before setup keepout solved Valid = no_call before
-tree_call before setup keepout solved Steps = no_call before
-tree_call before setup keepout solved Motion = no_call before
+tree_call before setup keepout solved _ = no_call before
 
 -- PRM's: before it, and after a setup, a keep-out, a construction, and start and goal replaced; a query changes nothing
 unfoldable pub prm_call : {A : Type 0} → A → A → A → A → A → Verb → Left A
@@ -39,10 +31,4 @@ prm_call before setup keepout constructed goals Construct = leaves constructed
 prm_call before setup keepout constructed goals Goals = leaves goals
 prm_call before setup keepout constructed goals Query = leaves before
 prm_call before setup keepout constructed goals Tables = leaves before
-prm_call before setup keepout constructed goals Solve = no_call before
-prm_call before setup keepout constructed goals Distance = no_call before
-prm_call before setup keepout constructed goals Between = no_call before
-prm_call before setup keepout constructed goals Steer = no_call before
-prm_call before setup keepout constructed goals Valid = no_call before
-prm_call before setup keepout constructed goals Steps = no_call before
-prm_call before setup keepout constructed goals Motion = no_call before
+prm_call before setup keepout constructed goals _ = no_call before

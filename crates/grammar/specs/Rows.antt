@@ -63,12 +63,7 @@ mount_row Steer = Some (numbers_row (MAX + S + S))
 mount_row Valid = Some (numbers_row S)
 mount_row Steps = Some (numbers_row (S + S))
 mount_row Motion = Some (numbers_row (S + S))
-mount_row Keepout = None
-mount_row Solve = None
-mount_row Construct = None
-mount_row Goals = None
-mount_row Query = None
-mount_row Tables = None
+mount_row _ = None
 
 -- `rrt`, `connect` or `star`, by the numbers of its setup
 unfoldable pub tree_row : ℕ → Verb → Option Row
@@ -76,15 +71,7 @@ tree_row n Setup = Some (setup_row n)
 tree_row n Keepout = Some keep_out_row
 tree_row n Solve = Some (list_row true Any)
 tree_row n Tables = Some (numbers_row 0)
-tree_row n Construct = None
-tree_row n Goals = None
-tree_row n Query = None
-tree_row n Distance = None
-tree_row n Between = None
-tree_row n Steer = None
-tree_row n Valid = None
-tree_row n Steps = None
-tree_row n Motion = None
+tree_row n _ = None
 
 -- `prm`
 unfoldable pub prm_row : Verb → Option Row
@@ -94,13 +81,7 @@ prm_row Construct = Some (list_row false Any)
 prm_row Goals = Some (numbers_row (S + S + RADIUS))
 prm_row Query = Some (list_row true (Exactly 0))
 prm_row Tables = Some (numbers_row 0)
-prm_row Solve = None
-prm_row Distance = None
-prm_row Between = None
-prm_row Steer = None
-prm_row Valid = None
-prm_row Steps = None
-prm_row Motion = None
+prm_row _ = None
 
 unfoldable pub row_of : Planner → Verb → Option Row
 row_of Mount verb = mount_row verb
