@@ -11,11 +11,17 @@ use fields::Limits;
 use keep_out_table::KeepOuts;
 use state::State;
 
-// The part of a segment that one step takes.
-pub const PART: f64 = 0.1;
+// The steps of a motion. What bounds them stands here, at a type, as the bounds of the other numbers do.
+#[derive(Clone, Copy)]
+pub struct Steps;
 
-// The most points of a motion that is looked at.
-pub const MOST_POINTS: f64 = 4096.0;
+impl Steps {
+    // The part of a segment that one step takes.
+    pub const PART: f64 = 0.1;
+
+    // The most points of a motion that is looked at.
+    pub const MOST_POINTS: f64 = 4096.0;
+}
 
 // The least whole number that is not below q. A u32 becomes a float in one instruction, where a usize takes six.
 fn least(q: f64) -> usize
@@ -36,8 +42,8 @@ fn least(q: f64) -> usize
 pub fn num_steps(segment: f64, from: State, to: State) -> Option<usize>
     ensures { result ≡ steps_of segment from to }
 {
-    let q = from.distance(to) / (segment * PART);
-    if q <= MOST_POINTS {
+    let q = from.distance(to) / (segment * Steps::PART);
+    if q <= Steps::MOST_POINTS {
         return Some(least(q));
     }
     None
