@@ -49,6 +49,7 @@ impl Roadmap {
         self.held().len()
     }
 
+    #[tactic(auto, using(crate::proofs::View::copied_is, crate::proofs::View::milestone_is))]
     pub fn milestone(&self, i: usize) -> Option<State>
         ensures { result ≡ milestone_of (milestones_of self.now) i }
     {

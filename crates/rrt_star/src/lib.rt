@@ -116,6 +116,7 @@ impl RrtStar {
         self.tree.len()
     }
 
+    #[tactic(auto, using(crate::proofs::Views::node_set, crate::proofs::Views::node_unset))]
     pub fn node(&self, i: usize) -> Option<NodeAt>
         ensures { result ≡ node_of (planner_of self.now) i }
     {

@@ -30,7 +30,7 @@ fn connect_ends(verdict: Verdict, reached: bool) -> Ends
 {
     match verdict {
         Verdict::Refused => Ends::GoesOn,
-        Verdict::Full => Ends::Full,
+        Verdict::Full => Ends::Full, // The other tree is full.
         Verdict::Added => { if reached { Ends::Joined } else { Ends::GoesOn } }
     }
 }
