@@ -69,11 +69,13 @@ impl KeepOut {
         }
     }
 
+    // Lent, so that the kind is asked before any number is loaded: by value, the numbers that
+    // kinds share came first (docs/LOOK-BACK.md).
     #[tactic(auto, unfolding(crate::specs::Covers::covers_of))]
-    pub fn covers(self, s: State) -> bool
-        ensures { result ≡ covers_of self s }
+    pub fn covers(&self, s: State) -> bool
+        ensures { result ≡ covers_of self.now s }
     {
-        match self {
+        match *self {
             KeepOut::Box { low, high } => s.within(low, high),
             KeepOut::Disc { az, el, radius } => {
                 let dx = s.az - az;
